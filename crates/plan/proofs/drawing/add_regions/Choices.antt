@@ -1,0 +1,13 @@
+use mathlib.Core.Path.{_≡_}
+use mathlib.Core.List.{_++_}
+use Prim.Native.Nat.{_+_}
+use lib.ListN.{replicate}
+use Rattle.std.specs.Of.Vec.{vec-items, vec-len, vec-cap}
+use Rattle.std.specs.declared.option.Option.the-variants.{None}
+use Rattle.plan.proofs.drawing.add_regions.Given as given
+
+abbrev pub Inv-loop-done : given.InvT-loop-done
+Inv-loop-done l =
+    (vec-items (l .ends) ≡ vec-items (l .entry .ends) ++ replicate (l .-done) None)
+    × (vec-len (l .ends) ≡ vec-len (l .entry .ends) + l .-done)
+    × (vec-cap (l .ends) ≡ vec-cap (l .entry .ends))

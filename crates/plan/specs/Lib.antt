@@ -1,0 +1,4 @@
+pub mod Statements
+pub mod Drawn
+pub mod Calls
+pub mod Stored

@@ -1,0 +1,58 @@
+// Rows of calls.
+ghost use mathlib.Core.Path.{_≡_};
+ghost use Rattle.std.specs.Of.Vec.{vec-items};
+ghost use Rattle.std.specs.Vec.{made};
+ghost use Rattle.plan.specs.Drawn.{blank};
+ghost use Rattle.plan.specs.Stored.{seen};
+ghost use Rattle.plan.specs.Calls.{after, answer, answers, drawn};
+use crate::call::Call;
+use crate::call::Made;
+use crate::stored::Plan;
+use refusals::refusal::Refusal;
+use std::alloc::AllocError;
+use std::alloc::Global;
+
+impl Plan {
+    // Performs a call.
+    pub fn perform(&mut self, call: Call) -> Result<Made, Refusal>
+        ensures answer { λ r. ⌜ r ≡ answer (seen (now (self .entry))) call ⌝ }
+        ensures plan { λ _. ⌜ seen (now (self .exit)) ≡ after (seen (now (self .entry))) call ⌝ }
+    {
+        match call {
+            Call::Lay(region, statement) => Ok(Made::Node(self.lay(region, statement)?)),
+            Call::Fork(region, branches) => Ok(Made::Node(self.fork(region, branches)?)),
+            Call::Arc(from, to) => {
+                self.arc(from, to)?;
+                Ok(Made::Nothing)
+            }
+            Call::Ends(region, first, last) => {
+                self.ends(region, first, last)?;
+                Ok(Made::Nothing)
+            }
+            Call::Change(node, statement) => {
+                self.change(node, statement)?;
+                Ok(Made::Nothing)
+            }
+        }
+    }
+}
+
+// A plan that a row of calls made, with what each of them answered.
+#[derive(Drop)]
+pub struct Drawing {
+    pub plan: Plan,
+    pub answers: Vec<Result<Made, Refusal>>,
+}
+
+// Performs a row of calls on a new plan. Each goes on from the plan as it is, refused or not.
+pub fn draw(heap: Global, calls: &[Call]) -> Result<Drawing, AllocError>
+    ensures plan { λ r. ⌜ made r (λ d. seen (d .plan) ≡ drawn (now (calls .entry))) ⌝ }
+    ensures answers { λ r. ⌜ made r (λ d. vec-items (d .answers) ≡ answers blank (now (calls .entry))) ⌝ }
+{
+    let mut plan = Plan::new(heap)?;
+    let mut answers = Vec::new(heap);
+    for call in calls {
+        answers.push(plan.perform(*call))?;
+    }
+    Ok(Drawing { plan, answers })
+}
