@@ -65,13 +65,14 @@ branches-set ns i x d h same =
     ap branches (sym (take-all (length ns) (set ns i x) (simp length-set (omega arith)))) ∙ branches-replaced ns i x d h same (length ns)
     ∙ ap branches (take-all (length ns) ns (omega arith))
 
--- new regions have no ends
-pub none-there : (k r : ℕ) → getD {A = Option Ends} (replicate k None) r None ≡ None
-none-there zero r = refl
-none-there (suc k) zero = refl
-none-there (suc k) (suc r) = none-there k r
+-- copies of one element read as that element everywhere
+pub getD-copies : {X : Type 0} (k i : ℕ) (x : X) → getD (replicate k x) i x ≡ x
+getD-copies zero i x = refl
+getD-copies (suc k) zero x = refl
+getD-copies (suc k) (suc i) x = getD-copies k i x
 
+-- new regions have no ends
 pub ends-more : (es : List (Option Ends)) (k r : ℕ) → getD (es ++ replicate k None) r None ≡ getD es r None
-ends-more [] k r = none-there k r
+ends-more [] k r = getD-copies k r None
 ends-more (e ∷ es) k zero = refl
 ends-more (e ∷ es) k (suc r) = ends-more es k r

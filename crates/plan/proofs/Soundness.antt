@@ -21,7 +21,7 @@ use Rattle.plan.specs.declared.node.Arc as declared-arc
 use Rattle.plan.specs.declared.call.Call.the-variants.{Lay, Fork, Arc, Ends, Change}
 use Rattle.plan.specs.Drawn.{Drawn, blank, node-at, region-of, width, branches, regions-before, Lies, Joins, Sound}
 use Rattle.plan.specs.Calls.{accepted, is-fork}
-use Rattle.plan.proofs.Nodes.{branches-++, pushed, in-pushed, region-replaced, in-replaced, branches-replaced, branches-set, none-there, ends-more}
+use Rattle.plan.proofs.Nodes.{branches-++, pushed, in-pushed, region-replaced, in-replaced, branches-replaced, branches-set, getD-copies, ends-more}
 
 -- a node that is not there reads as this one
 abbrev origin : Node
@@ -50,7 +50,7 @@ blank-sound = record {
   placed = λ n h. absurd (omega arith);
   forked = λ n r b k h e. absurd (omega arith);
   joined = λ k h. absurd (omega arith);
-  bounded = λ r e is. absurd (no-ends e (sym (none-there 1 r) ∙ is));
+  bounded = λ r e is. absurd (no-ends e (sym (getD-copies 1 r None) ∙ is));
 }
 
 module _ (p : Drawn) (s : Sound p) where

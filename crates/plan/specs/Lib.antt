@@ -1,4 +1,6 @@
 pub mod Statements
 pub mod Drawn
 pub mod Calls
+pub mod Paths
+pub mod Marks
 pub mod Stored

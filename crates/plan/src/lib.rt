@@ -6,3 +6,4 @@ pub mod node;
 pub mod rows;
 pub mod statement;
 pub mod stored;
+pub mod whole;

@@ -22,3 +22,10 @@ pub struct Ends {
     pub first: usize,
     pub last: usize,
 }
+
+// The way in which a plan is read: backward, every arc is turned round, and first and last are exchanged.
+#[derive(Clone, Copy)]
+pub enum Direction {
+    Forward,
+    Backward,
+}
