@@ -109,7 +109,7 @@ module _ (p : Drawn) (s : Sound p) (d : Direction) where
   pub round-same : (b : Bool) (start marks new : List Bool) (n : ℕ) (a : Arc) → a ≡ turned d (arc-at p n) → Told p d false a marks new → Round p d b start marks n → Round p d b start new (n + 1)
   round-same b start marks new n a is t r =
       subst (λ (ms : List Bool). Round p d b start ms (n + 1)) (sym (t .0))
-        (record { grown = r .grown; told = told-same p d b start marks n (r .told) (subst (Followed marks) is (t .1)) })
+      (record { grown = r .grown; told = told-same p d b start marks n (r .told) (subst (Followed marks) is (t .1)) })
 
   pub round-none : (start : List Bool) → Round p d false start start 0
   round-none start = record { grown = grown-same start; told = (refl, λ k h. absurd (omega arith)) }
@@ -155,7 +155,7 @@ module _ (p : Drawn) (s : Sound p) (d : Direction) where
   firsts-step start marks n first e is at h (grown, old) =
       let within : first-in d e < length marks = subst (λ (i : ℕ). i < length marks) at h in
       subst (λ (i : ℕ). Grown p d start (set marks i true) × FirstsTo p d (set marks i true) (n + 1)) (sym at)
-        (grown-then start marks _ grown (grown-set marks (first-in d e) within (λ _. first-reached n e is)), firsts-more marks n e is within old)
+      (grown-then start marks _ grown (grown-set marks (first-in d e) within (λ _. first-reached n e is)), firsts-more marks n e is within old)
 
 -- the lowest node that is not marked is the lowest that is not reached
 pub unset-unreached : (p : Drawn) (d : Direction) (marks : List Bool) (count : ℕ) → count ≡ length (p .nodes) → Exact p d marks → (found : Option ℕ)

@@ -28,7 +28,7 @@ pushed {X} P ns x d old new n h = go (cases-eq n (length ns))
     go : ((n ≡ length ns) ⊎ (n ≡ length ns → ⊥)) → P n (getD (ns ++ (x ∷ [])) n d) (take n (ns ++ (x ∷ [])))
     go (inl e) =
         subst (λ (m : ℕ). P m (getD (ns ++ (x ∷ [])) m d) (take m (ns ++ (x ∷ [])))) (sym e)
-          (subst₂ (λ (y : X) (ms : List X). P (length ns) y ms) (sym (getD-at ns x [] d (length ns) refl)) (sym (take-append-seam ns (x ∷ []))) new)
+        (subst₂ (λ (y : X) (ms : List X). P (length ns) y ms) (sym (getD-at ns x [] d (length ns) refl)) (sym (take-append-seam ns (x ∷ []))) new)
     go (inr e) =
         let l : n < length ns = omega (arith, h, length-append ns (x ∷ [])) in
         subst₂ (λ (y : X) (ms : List X). P n y ms) (sym (getD-append-left ns (x ∷ []) d n l)) (sym (take-append-le n ns (x ∷ []) (omega arith))) (old n l)
@@ -47,7 +47,7 @@ region-replaced ns i x d same n h = go (cases-eq n i)
     go : ((n ≡ i) ⊎ (n ≡ i → ⊥)) → region-of (getD (set ns i x) n d) ≡ region-of (getD ns n d)
     go (inl e) =
         subst (λ (m : ℕ). region-of (getD (set ns i x) m d) ≡ region-of (getD ns m d)) (sym e)
-          (ap region-of (getD-set-same ns i x d (subst (λ (m : ℕ). m < length ns) e h)) ∙ same)
+        (ap region-of (getD-set-same ns i x d (subst (λ (m : ℕ). m < length ns) e h)) ∙ same)
     go (inr e) = ap region-of (getD-set-other ns i n x d e)
 
 pub in-replaced : (ns : List Node) (i : ℕ) (x d : Node) (r n : ℕ) → region-of x ≡ region-of (getD ns i d) → In ns d r n → In (set ns i x) d r n

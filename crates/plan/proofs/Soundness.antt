@@ -84,14 +84,14 @@ module _ (p : Drawn) (s : Sound p) where
 
   pub fork-sound : (r k : ℕ) → r < length (p .ends) → Sound (accepted p (Fork r k))
   fork-sound r k h =
-    let x : Node = node.Fork r (length (p .ends)) k in
-    record {
-      counted = length-append (p .ends) (replicate k None) ∙ simp length-replicate (omega (arith, s .counted, branches-++ (p .nodes) (x ∷ [])));
-      placed = placed-pushed x h;
-      forked = forked-pushed x (λ f b j e. (let same : b ≡ length (p .ends) = cc in same ∙ s .counted));
-      joined = λ i l. joins-pushed x _ (s .joined i l);
-      bounded = λ q e is. lies-pushed x q e (s .bounded q e (sym (ends-more (p .ends) k q) ∙ is));
-    }
+      let x : Node = node.Fork r (length (p .ends)) k in
+      record {
+        counted = length-append (p .ends) (replicate k None) ∙ simp length-replicate (omega (arith, s .counted, branches-++ (p .nodes) (x ∷ [])));
+        placed = placed-pushed x h;
+        forked = forked-pushed x (λ f b j e. (let same : b ≡ length (p .ends) = cc in same ∙ s .counted));
+        joined = λ i l. joins-pushed x _ (s .joined i l);
+        bounded = λ q e is. lies-pushed x q e (s .bounded q e (sym (ends-more (p .ends) k q) ∙ is));
+      }
 
   pub arc-sound : (m n : ℕ) → Joins p (record { from = m; to = n }) → Sound (accepted p (Arc m n))
   arc-sound m n j = record {
@@ -123,8 +123,11 @@ module _ (p : Drawn) (s : Sound p) where
     counted = s .counted ∙ ap suc (sym (branches-set (p .nodes) n (changed p n st) origin h narrow));
     placed = λ m l. subst₂ (λ (r b : ℕ). r < suc b) (sym (region-replaced (p .nodes) n (changed p n st) origin refl m (within m l))) (sym (branches-replaced (p .nodes) n (changed p n st) origin h narrow m)) (s .placed m (within m l));
     forked = λ m r b k l is. still m r b k (within m l) is (cases-eq m n);
-    joined = λ k l. let j = s .joined k l in (simp length-set (j .0), simp length-set (j .1),
-      region-replaced (p .nodes) n (changed p n st) origin refl _ (j .0) ∙ j .2 ∙ sym (region-replaced (p .nodes) n (changed p n st) origin refl _ (j .1)));
+    joined = λ k l. let j = s .joined k l in (
+      simp length-set (j .0),
+      simp length-set (j .1),
+      region-replaced (p .nodes) n (changed p n st) origin refl _ (j .0) ∙ j .2 ∙ sym (region-replaced (p .nodes) n (changed p n st) origin refl _ (j .1)),
+    );
     bounded = λ r e is. let l = s .bounded r e is in (in-replaced (p .nodes) n (changed p n st) origin _ _ refl (l .0), in-replaced (p .nodes) n (changed p n st) origin _ _ refl (l .1));
   }
     where

@@ -1,13 +1,14 @@
 -- A path backward is a path forward, turned round.
-use mathlib.Core.Path.{_≡_, refl, ap}
+use mathlib.Core.Path.{ap}
 use Prim.Native.Nat.{ℕ, _<_}
 use lib.ListN.{length}
-use native.Mathlib.Omega.{arith}
-use Rattle.plan.specs.declared.node.Arc.{Arc}
+use Rattle.std.specs.Options.{Cases}
+use Rattle.std.specs.declared.option.Option.{Option}
+use Rattle.std.specs.declared.option.Option.the-variants.{None, Some}
 use Rattle.plan.specs.declared.node.Direction.{Direction}
 use Rattle.plan.specs.declared.node.Direction.the-variants.{Forward, Backward}
-use Rattle.plan.specs.Drawn.{Drawn, arc-at}
-use Rattle.plan.specs.Paths.{turned, Leads, Path, stay, go, Reached, Leaves, Lowest}
+use Rattle.plan.specs.Drawn.{Drawn}
+use Rattle.plan.specs.Paths.{turned, Leads, Path, stay, go, Reached, Leaves, EachLeaves, Lowest}
 
 flip : Direction → Direction
 flip Forward = Backward
@@ -37,5 +38,9 @@ module _ (p : Drawn) where
   unfolding flip
   leaves-reached n r = (r .0, r .1, path-flipped Forward n _ (r .2))
 
-  pub lowest-leaves : (n : ℕ) → Lowest (length (p .nodes)) (Reached p Backward) n → Lowest (length (p .nodes)) (Leaves p) n
-  lowest-leaves n low = record { within = low .within; lacks = λ l. low .lacks (leaves-reached n l); least = λ k h. reached-leaves k (low .least k h) }
+  -- the lowest node that is not reached backward is the lowest that does not lead on
+  pub unreached-stranded : (found : Option ℕ)
+      → Cases found ((n : ℕ) → n < length (p .nodes) → Reached p Backward n) (λ n. Lowest (length (p .nodes)) (Reached p Backward) n)
+      → Cases found (EachLeaves p) (λ n. Lowest (length (p .nodes)) (Leaves p) n)
+  unreached-stranded None all = λ n h. reached-leaves n (all n h)
+  unreached-stranded (Some n) low = record { within = low .within; lacks = λ l. low .lacks (leaves-reached n l); least = λ k h. reached-leaves k (low .least k h) }

@@ -3,7 +3,7 @@
 --   refusal   the first of them whose test holds
 --   after     the plan after a call; refused, it is as it was
 --   answer    what the call returns
---   drawn     the plan that a row of calls makes, and `answers` what they return
+--   drawn     the plan that a row of calls makes, and `answers-of` what they return
 use mathlib.Core.Bool.{Bool, true, false, cond, not, _&&_, _||_}
 use mathlib.Core.List.{List, [], _∷_, _++_}
 use Prim.Native.Nat.{ℕ, _+_}
@@ -152,9 +152,9 @@ abbrev pub after-all : Drawn → List Call → Drawn
 after-all p [] = p
 after-all p (c ∷ cs) = after-all (after p c) cs
 
-abbrev pub answers : Drawn → List Call → List (Result Made Refusal)
-answers p [] = []
-answers p (c ∷ cs) = answer p c ∷ answers (after p c) cs
+abbrev pub answers-of : Drawn → List Call → List (Result Made Refusal)
+answers-of p [] = []
+answers-of p (c ∷ cs) = answer p c ∷ answers-of (after p c) cs
 
 abbrev pub drawn : List Call → Drawn
 drawn cs = after-all blank cs

@@ -5,7 +5,7 @@ use Prim.Native.Nat.{ℕ, _<_}
 use lib.ListN.{length}
 use Rattle.std.specs.declared.option.Option.the-variants.{None, Some}
 use Rattle.refusals.specs.declared.refusal.Refusal.{Refusal}
-use Rattle.refusals.specs.declared.refusal.Refusal.the-variants.{NoEnds, Unreached, Stranded}
+use Rattle.refusals.specs.declared.refusal.Refusal.the-variants.{Missing, Operand, Branches, Outside, Repeated, NotStep, Full, NoEnds, Unreached, Stranded, Short, NotTenths}
 use Rattle.plan.specs.declared.node.Arc.{Arc}
 use Rattle.plan.specs.declared.node.Ends.{Ends}
 use Rattle.plan.specs.declared.node.Direction.{Direction}
@@ -62,7 +62,16 @@ pub record Lowest (count : ℕ) (Q : ℕ → Type 0) (n : ℕ) : Type 0 where
   pub least : (k : ℕ) → k < n → Q k
 
 -- why a plan is not whole: the first of three refusals that applies, at its lowest place
-pub data Fault (p : Drawn) : Refusal → Type 0 where
-  no-ends : {r : ℕ} → Lowest (length (p .ends)) (λ q. ends-at p q ≡ None → ⊥) r → Fault p (NoEnds r)
-  unreached : {n : ℕ} → Ended p → Lowest (length (p .nodes)) (Reached p Forward) n → Fault p (Unreached n)
-  stranded : {n : ℕ} → Ended p → EachReached p → Lowest (length (p .nodes)) (Leaves p) n → Fault p (Stranded n)
+abbrev pub Fault : Drawn → Refusal → Type 0
+Fault p (NoEnds r) = Lowest (length (p .ends)) (λ q. ends-at p q ≡ None → ⊥) r
+Fault p (Unreached n) = Ended p × Lowest (length (p .nodes)) (Reached p Forward) n
+Fault p (Stranded n) = Ended p × EachReached p × Lowest (length (p .nodes)) (Leaves p) n
+Fault p Missing = ⊥
+Fault p Operand = ⊥
+Fault p Branches = ⊥
+Fault p Outside = ⊥
+Fault p Repeated = ⊥
+Fault p NotStep = ⊥
+Fault p Full = ⊥
+Fault p Short = ⊥
+Fault p NotTenths = ⊥

@@ -4,7 +4,7 @@ ghost use mathlib.Core.Path.{_≡_};
 // The kept set: bit v is 1 where variable v is read after the plan's end.
 #[derive(Clone, Copy)]
 pub struct Conditions {
-    kept: u16,
+    pub kept: u16,
 }
 
 impl Conditions {
@@ -20,11 +20,5 @@ impl Conditions {
         ensures { λ _. ⌜ now (self .exit) .kept ≡ mask ⌝ }
     {
         self.kept = mask;
-    }
-
-    pub fn kept(&self) -> u16
-        ensures { λ r. ⌜ r ≡ now (self .entry) .kept ⌝ }
-    {
-        self.kept
     }
 }

@@ -1,7 +1,7 @@
 // The calls that draw a plan. Each tests for its refusals in the order of their numbers.
 ghost use mathlib.Core.Path.{_≡_};
 ghost use Prim.Native.Nat.{ℕ, _+_, _≤_};
-ghost use mathlib.Core.List.{_++_};
+ghost use mathlib.Core.List.{[], _∷_, _++_};
 ghost use lib.ListN.{length, replicate};
 ghost use Rattle.std.specs.Of.Vec.{vec-items, vec-len, vec-cap};
 ghost use Rattle.std.specs.Vec.{made};
@@ -25,7 +25,7 @@ use std::alloc::Global;
 
 impl Statement {
     // Whether its variables are among the 16, and its probe among the 8.
-    pub fn in_range(self) -> bool
+    pub(crate) fn in_range(self) -> bool
         ensures { λ r. ⌜ r ≡ in-range self ⌝ }
     {
         match self {
@@ -33,9 +33,10 @@ impl Statement {
             Statement::Set(v, _) | Statement::Send(v) => v <= 15,
             Statement::Copy(v, a) => v <= 15 && a <= 15,
             Statement::Probe(v, p) => v <= 15 && p <= 7,
-            Statement::Add(v, a, b) | Statement::Sub(v, a, b) | Statement::Min(v, a, b) | Statement::Max(v, a, b) => {
-                v <= 15 && a <= 15 && b <= 15
-            }
+            Statement::Add(v, a, b)
+            | Statement::Sub(v, a, b)
+            | Statement::Min(v, a, b)
+            | Statement::Max(v, a, b) => { v <= 15 && a <= 15 && b <= 15 }
         }
     }
 }
@@ -52,14 +53,14 @@ impl Node {
 }
 
 // Adds so many regions with no ends.
-fn add_regions(ends: &mut Vec<Option<Ends>>, count: usize)
-    requires { ⌜ vec-len (now ends) + count ≤ vec-cap (now ends) ⌝ }
-    ensures items { λ _. ⌜ vec-items (now (ends .exit)) ≡ vec-items (now (ends .entry)) ++ replicate count None ⌝ }
-    ensures len { λ _. ⌜ vec-len (now (ends .exit)) ≡ vec-len (now (ends .entry)) + count ⌝ }
-    ensures capacity { λ _. ⌜ vec-cap (now (ends .exit)) ≡ vec-cap (now (ends .entry)) ⌝ }
+fn add_regions(regions: &mut Vec<Option<Ends>>, count: usize)
+    requires { ⌜ vec-len (now regions) + count ≤ vec-cap (now regions) ⌝ }
+    ensures items { λ _. ⌜ vec-items (now (regions .exit)) ≡ vec-items (now (regions .entry)) ++ replicate count None ⌝ }
+    ensures len { λ _. ⌜ vec-len (now (regions .exit)) ≡ vec-len (now (regions .entry)) + count ⌝ }
+    ensures capacity { λ _. ⌜ vec-cap (now (regions .exit)) ≡ vec-cap (now (regions .entry)) ⌝ }
 {
     for _done in 0..count {
-        ends.push_reserved(None);
+        regions.push_reserved(None);
     }
 }
 
@@ -75,6 +76,15 @@ fn has_arc(arcs: &[Arc], from: usize, to: usize) -> bool
     false
 }
 
+// The plan with region 0 and nothing else, where there is room for all that a plan may hold.
+fn empty_plan(nodes: Vec<Node>, arcs: Vec<Arc>, ends: Vec<Option<Ends>>) -> Plan
+    requires lists { ⌜ (vec-items nodes ≡ []) × (vec-items arcs ≡ []) × (vec-items ends ≡ None ∷ []) ⌝ }
+    requires room { ⌜ (256 ≤ vec-cap nodes) × (1024 ≤ vec-cap arcs) × (64 ≤ vec-cap ends) ⌝ }
+    ensures { λ r. ⌜ seen r ≡ blank ⌝ }
+{
+    Plan { nodes, arcs, ends }
+}
+
 impl Plan {
     // A new plan: region 0 and nothing else.
     pub fn new(heap: Global) -> Result<Plan, AllocError>
@@ -84,7 +94,7 @@ impl Plan {
         let arcs = Vec::with_capacity(heap, ARCS)?;
         let mut ends = Vec::with_capacity(heap, REGIONS)?;
         ends.push_reserved(None);
-        Ok(Plan { nodes, arcs, ends })
+        Ok(empty_plan(nodes, arcs, ends))
     }
 
     // Makes a step in a region, and answers its number.
@@ -123,7 +133,8 @@ impl Plan {
             return Err(Refusal::Full);
         }
         add_regions(&mut self.ends, branches);
-        self.nodes.push_reserved(Node::Fork(region, first, branches));
+        self.nodes
+            .push_reserved(Node::Fork(region, first, branches));
         Ok(node)
     }
 

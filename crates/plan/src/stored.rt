@@ -8,7 +8,9 @@ use crate::node::Node;
 
 // The most that a plan holds.
 pub const NODES: usize = 256;
+
 pub const REGIONS: usize = 64;
+
 pub const ARCS: usize = 1024;
 
 // There is room for all that a plan may hold from the start on, so that no call wants memory.

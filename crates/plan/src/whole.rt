@@ -9,7 +9,7 @@ ghost use Rattle.std.specs.Results.{Cases};
 ghost use Rattle.std.specs.declared.option.Option.the-variants.{None};
 ghost use Rattle.plan.specs.Drawn.{ends-at};
 ghost use Rattle.plan.specs.Marks.{Marked, Followed, FollowedTo, FirstsTo, Grown, Exact, unset};
-ghost use Rattle.plan.specs.Paths.{turned, first-in, Ended, Reached, Whole, Lowest, Fault};
+ghost use Rattle.plan.specs.Paths.{turned, first-in, Ended, Reached, Leaves, EachLeaves, Whole, Lowest, Fault};
 ghost use Rattle.plan.specs.Stored.{seen};
 use crate::node::Arc;
 use crate::node::Direction;
@@ -25,7 +25,10 @@ impl Arc {
     {
         match direction {
             Direction::Forward => self,
-            Direction::Backward => Arc { from: self.to, to: self.from },
+            Direction::Backward => Arc {
+                from: self.to,
+                to: self.from,
+            },
         }
     }
 }
@@ -120,6 +123,15 @@ impl Plan {
         first_unset(&marks, self.nodes.len())
     }
 
+    // The lowest node that does not lead to the last node of its region.
+    fn first_stranded(&self) -> Option<usize>
+        ensures { λ r. ⌜ BySome r
+            (EachLeaves (seen (now (self .entry))))
+            (λ n. Lowest (length (seen (now (self .entry)) .nodes)) (Leaves (seen (now (self .entry)))) n) ⌝ }
+    {
+        self.first_unreached(Direction::Backward)
+    }
+
     // The lowest region that has no ends.
     fn first_unended(&self) -> Option<usize>
         ensures { λ r. ⌜ BySome r (Ended (seen (now (self .entry))))
@@ -143,7 +155,7 @@ impl Plan {
         if let Some(node) = self.first_unreached(Direction::Forward) {
             return Err(Refusal::Unreached(node));
         }
-        if let Some(node) = self.first_unreached(Direction::Backward) {
+        if let Some(node) = self.first_stranded() {
             return Err(Refusal::Stranded(node));
         }
         Ok(())

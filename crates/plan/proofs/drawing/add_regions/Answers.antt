@@ -10,7 +10,9 @@ use Rattle.plan.proofs.drawing.add_regions.Needs as need
 
 pub loop-done-again : need.loop-done-again
 loop-done-again c =
-    let old = vec-items (c .args .ends .now) in
-    (c .push-reserved .ensures .items ∙ ap (λ (es : List (Option Ends)). es ++ (None ∷ [])) (c .loop-done .inv .0) ∙ append-assoc old _ _
-      ∙ ap (λ (es : List (Option Ends)). old ++ es) (replicate-append-replicate (c .loop-done .-done) 1 None),
-     omega arith, omega arith)
+    let old = vec-items (c .args .regions .now) in (
+      c .push-reserved .ensures .items ∙ ap (λ (es : List (Option Ends)). es ++ (None ∷ [])) (c .loop-done .inv .0) ∙ append-assoc old _ _
+          ∙ ap (λ (es : List (Option Ends)). old ++ es) (replicate-append-replicate (c .loop-done .-done) 1 None),
+      omega arith,
+      omega arith,
+    )

@@ -8,6 +8,6 @@ use Rattle.plan.proofs.drawing.add_regions.Given as given
 
 abbrev pub Inv-loop-done : given.InvT-loop-done
 Inv-loop-done l =
-    (vec-items (l .ends) ≡ vec-items (l .entry .ends) ++ replicate (l .-done) None)
-    × (vec-len (l .ends) ≡ vec-len (l .entry .ends) + l .-done)
-    × (vec-cap (l .ends) ≡ vec-cap (l .entry .ends))
+    (vec-items (l .regions) ≡ vec-items (l .entry .regions) ++ replicate (l .-done) None)
+    × (vec-len (l .regions) ≡ vec-len (l .entry .regions) + l .-done)
+    × (vec-cap (l .regions) ≡ vec-cap (l .entry .regions))

@@ -9,6 +9,14 @@ use Rattle.plan.proofs.stored.Plan.arc.Needs as need
 
 pub ghost-self : need.ghost-self
 ghost-self c =
-    let old = c .args .self .now in
-    (search needs, (search needs, (∥∥₁-map (old .sound)
-      (λ s. sound-as _ _ refl (c .push-reserved .ensures .items) refl (arc-sound (seen old) s (c .args .from) (c .args .to) (omega arith, omega arith, search (needs, getD-read)))), tt)))
+    let old = c .args .self .now in (
+      search needs,
+      (
+        search needs,
+        (
+          ∥∥₁-map (old .sound)
+              (λ s. sound-as _ _ refl (c .push-reserved .ensures .items) refl (arc-sound (seen old) s (c .args .from) (c .args .to) (omega arith, omega arith, search (needs, getD-read)))),
+          tt,
+        ),
+      ),
+    )

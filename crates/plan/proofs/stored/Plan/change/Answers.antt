@@ -9,6 +9,14 @@ use Rattle.plan.proofs.stored.Plan.change.Needs as need
 
 pub ghost-self : need.ghost-self
 ghost-self c =
-    let old = c .args .self .now in
-    (search needs, (search needs, (∥∥₁-map (old .sound)
-      (λ s. sound-as _ _ (search (needs, getD-read)) refl refl (change-sound (seen old) s (c .args .node) (c .args .statement) (omega arith) search (needs, getD-read))), tt)))
+    let old = c .args .self .now in (
+      search needs,
+      (
+        search needs,
+        (
+          ∥∥₁-map (old .sound)
+              (λ s. sound-as _ _ (search (needs, getD-read)) refl refl (change-sound (seen old) s (c .args .node) (c .args .statement) (omega arith) search (needs, getD-read))),
+          tt,
+        ),
+      ),
+    )

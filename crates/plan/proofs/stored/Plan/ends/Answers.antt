@@ -9,6 +9,14 @@ use Rattle.plan.proofs.stored.Plan.ends.Needs as need
 
 pub ghost-self : need.ghost-self
 ghost-self c =
-    let old = c .args .self .now in
-    (search needs, (search needs, (∥∥₁-map (old .sound)
-      (λ s. sound-as _ _ refl refl (search needs) (ends-sound (seen old) s (c .args .region) (c .args .first) (c .args .last) (omega arith) (omega arith, search (needs, getD-read)) (omega arith, search (needs, getD-read)))), tt)))
+    let old = c .args .self .now in (
+      search needs,
+      (
+        search needs,
+        (
+          ∥∥₁-map (old .sound)
+              (λ s. sound-as _ _ refl refl (search needs) (ends-sound (seen old) s (c .args .region) (c .args .first) (c .args .last) (omega arith) (omega arith, search (needs, getD-read)) (omega arith, search (needs, getD-read)))),
+          tt,
+        ),
+      ),
+    )

@@ -6,4 +6,4 @@ use Rattle.plan.proofs.stored.Plan.first_unreached.Needs as need
 pub returns : need.returns
 returns c =
     unset-unreached (seen (c .args .self .now)) (c .args .direction) (c .reached-marks .result) (c .len .result) (omega arith) (c .reached-marks .ensures .0)
-      (c .first-unset .result) (c .first-unset .ensures)
+    (c .first-unset .result) (c .first-unset .ensures)

@@ -8,6 +8,14 @@ use Rattle.plan.proofs.stored.Plan.fork.Needs as need
 
 pub ghost-self : need.ghost-self
 ghost-self c =
-    let old = c .args .self .now in
-    (search needs, (search needs, (∥∥₁-map (old .sound)
-      (λ s. sound-as _ _ (search needs) refl (c .add-regions .ensures .items) (fork-sound (seen old) s (c .args .region) (c .args .branches) (omega arith))), tt)))
+    let old = c .args .self .now in (
+      search needs,
+      (
+        search needs,
+        (
+          ∥∥₁-map (old .sound)
+              (λ s. sound-as _ _ (search needs) refl (c .add-regions .ensures .items) (fork-sound (seen old) s (c .args .region) (c .args .branches) (omega arith))),
+          tt,
+        ),
+      ),
+    )

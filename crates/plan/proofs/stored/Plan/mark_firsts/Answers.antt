@@ -38,11 +38,12 @@ loop-named-again c =
     let seen-at = ap (λ (es : List (Option Ends)). getD es i None) (sym (c .as-slice-named-items .ensures .value)) in
     let P : List Bool → Type 0 = λ marks. Grown p d start marks × FirstsTo p d marks (i + 1) in
     elim (c .match-named .came) [
-      in-Some w ↦
-        let at = seen-at ∙ w .in-Some .is in
-        subst P (sym (w .marks-is)) (firsts-step p s d start (l .marks) i (w .first-in .result) (w .in-Some .ends) at (w .first-in .ensures)
+      | in-Some w ↦
+          let at = seen-at ∙ w .in-Some .is in
+          subst P (sym (w .marks-is)) (firsts-step p s d start (l .marks) i (w .first-in .result) (w .in-Some .ends) at (w .first-in .ensures)
           (omega (arith, first-reached p s d i (w .in-Some .ends) at .0, w .first-in .ensures)) (l .inv))
-    | in-rest w ↦ subst P (sym (w .marks-is)) (l .inv .0, firsts-same p s d (l .marks) i (seen-at ∙ w .in-rest .is) (l .inv .1)) ]
+      | in-rest w ↦ subst P (sym (w .marks-is)) (l .inv .0, firsts-same p s d (l .marks) i (seen-at ∙ w .in-rest .is) (l .inv .1))
+    ]
 
 pub returns : need.returns
 returns c = record {

@@ -13,6 +13,8 @@ pub returns : need.returns
 returns c =
     let p = seen (c .args .self .now) in
     let before = c .loop-direction .inv in
-    let grown = c .spread .ensures .grown in
-    (marks-exact p (opened p (c .args .self .now .sound)) (c .args .direction) (c .spread .last .marks) (grown .right (before .1))
-      (λ r e h is. grown .kept _ (before .2 r e h is)) (c .loop-direction-test .ensures tt .told), grown .long ∙ before .0)
+    let grown = c .spread .ensures .grown in (
+      marks-exact p (opened p (c .args .self .now .sound)) (c .args .direction) (c .spread .last .marks) (grown .right (before .1))
+          (λ r e h is. grown .kept _ (before .2 r e h is)) (c .loop-direction-test .ensures tt .told),
+      grown .long ∙ before .0,
+    )

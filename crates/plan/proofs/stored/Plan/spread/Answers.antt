@@ -41,8 +41,9 @@ loop-arc-again c =
     let there = ends-there p s d i a within is in
     let P : Bool → Type 0 = λ b. Round p d b (c .args .marks .now) new (i + 1) in
     elim (c .if-follow .came) [
-      then-follow w ↦ subst P (sym (w .changed-is)) (round-new p s d (l .changed) (c .args .marks .now) (l .marks) new i a within is (omega (arith, there .1)) (w .if-follow .ensures tt) (l .inv))
-    | else-follow w ↦ subst P (sym (w .changed-is)) (round-same p s d (l .changed) (c .args .marks .now) (l .marks) new i a is (w .if-follow .ensures tt) (l .inv)) ]
+      | then-follow w ↦ subst P (sym (w .changed-is)) (round-new p s d (l .changed) (c .args .marks .now) (l .marks) new i a within is (omega (arith, there .1)) (w .if-follow .ensures tt) (l .inv))
+      | else-follow w ↦ subst P (sym (w .changed-is)) (round-same p s d (l .changed) (c .args .marks .now) (l .marks) new i a is (w .if-follow .ensures tt) (l .inv))
+    ]
 
 pub returns : need.returns
 returns c =
@@ -51,5 +52,5 @@ returns c =
     record {
       grown = l .inv .grown;
       told = round-all p (opened p (c .args .self .now .sound)) (c .args .direction) (l .changed) (c .args .marks .now) (l .marks) _ _
-        (omega (arith, c .loop-arc-test .left, ap length (c .as-slice-arc-items .ensures .value))) (l .inv);
+          (omega (arith, c .loop-arc-test .left, ap length (c .as-slice-arc-items .ensures .value))) (l .inv);
     }
