@@ -4,3 +4,4 @@ pub mod Performed
 pub mod Opened
 pub mod Marking
 pub mod Turning
+pub mod Forks

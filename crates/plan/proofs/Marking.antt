@@ -36,7 +36,7 @@ still-marked marks n k h e (inl same) = subst (Marked (set marks n true)) (sym s
 still-marked marks n k h e (inr other) = getD-set-other marks n k true false other ∙ e
 
 -- a region that has ends is there
-ended-there : (p : Drawn) (r : ℕ) (e : Ends) → ends-at p r ≡ Some e → r < length (p .ends)
+pub ended-there : (p : Drawn) (r : ℕ) (e : Ends) → ends-at p r ≡ Some e → r < length (p .ends)
 ended-there p r e is = go′ (cases-lt r (length (p .ends)))
   where
     go′ : (r < length (p .ends)) ⊎ (length (p .ends) ≤ r) → r < length (p .ends)

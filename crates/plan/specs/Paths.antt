@@ -5,7 +5,7 @@ use Prim.Native.Nat.{ℕ, _<_}
 use lib.ListN.{length}
 use Rattle.std.specs.declared.option.Option.the-variants.{None, Some}
 use Rattle.refusals.specs.declared.refusal.Refusal.{Refusal}
-use Rattle.refusals.specs.declared.refusal.Refusal.the-variants.{Missing, Operand, Branches, Outside, Repeated, NotStep, Full, NoEnds, Unreached, Stranded, Short, NotTenths}
+use Rattle.refusals.specs.declared.refusal.Refusal.the-variants.{Missing, Operand, Branches, Outside, Repeated, NotStep, Full, NoEnds, Unreached, Stranded, TooManyExpressions, Short, NotTenths}
 use Rattle.plan.specs.declared.node.Arc.{Arc}
 use Rattle.plan.specs.declared.node.Ends.{Ends}
 use Rattle.plan.specs.declared.node.Direction.{Direction}
@@ -21,6 +21,10 @@ turned Backward a = record { from = a .to; to = a .from }
 abbrev pub first-in : Direction → Ends → ℕ
 first-in Forward e = e .first
 first-in Backward e = e .last
+
+abbrev pub last-in : Direction → Ends → ℕ
+last-in Forward e = e .last
+last-in Backward e = e .first
 
 -- some arc leads from m to n
 abbrev pub Leads : Drawn → Direction → ℕ → ℕ → Type 0
@@ -73,5 +77,6 @@ Fault p Outside = ⊥
 Fault p Repeated = ⊥
 Fault p NotStep = ⊥
 Fault p Full = ⊥
+Fault p (TooManyExpressions n) = ⊥
 Fault p Short = ⊥
 Fault p NotTenths = ⊥

@@ -8,6 +8,8 @@ ghost use Rattle.plan.specs.Stored.{seen};
 ghost use Rattle.plan.specs.Calls.{after, after-all, answer, answers-of, drawn};
 use crate::call::Call;
 use crate::call::Made;
+use crate::node::Arc;
+use crate::node::Ends;
 use crate::node::Node;
 use crate::stored::Plan;
 use refusals::refusal::Refusal;
@@ -20,6 +22,20 @@ impl Plan {
         ensures { λ r. ⌜ now r ≡ seen (now (self .entry)) .nodes ⌝ }
     {
         self.nodes.as_slice()
+    }
+
+    // The arcs, in the order of making.
+    pub fn arcs(&self) -> &[Arc]
+        ensures { λ r. ⌜ now r ≡ seen (now (self .entry)) .arcs ⌝ }
+    {
+        self.arcs.as_slice()
+    }
+
+    // The ends of each region, if they are named.
+    pub fn regions(&self) -> &[Option<Ends>]
+        ensures { λ r. ⌜ now r ≡ seen (now (self .entry)) .ends ⌝ }
+    {
+        self.ends.as_slice()
     }
 
     // Performs a call.

@@ -9,7 +9,7 @@ ghost use Rattle.std.specs.Results.{Cases};
 ghost use Rattle.std.specs.declared.option.Option.the-variants.{None};
 ghost use Rattle.plan.specs.Drawn.{ends-at};
 ghost use Rattle.plan.specs.Marks.{Marked, Followed, FollowedTo, FirstsTo, Grown, Exact, unset};
-ghost use Rattle.plan.specs.Paths.{turned, first-in, Ended, Reached, Leaves, EachLeaves, Whole, Lowest, Fault};
+ghost use Rattle.plan.specs.Paths.{turned, first-in, last-in, Ended, Reached, Leaves, EachLeaves, Whole, Lowest, Fault};
 ghost use Rattle.plan.specs.Stored.{seen};
 use crate::node::Arc;
 use crate::node::Direction;
@@ -41,6 +41,16 @@ impl Ends {
         match direction {
             Direction::Forward => self.first,
             Direction::Backward => self.last,
+        }
+    }
+
+    // The node with which a region ends in a direction.
+    pub fn last_in(self, direction: Direction) -> usize
+        ensures { λ r. ⌜ r ≡ last-in direction self ⌝ }
+    {
+        match direction {
+            Direction::Forward => self.last,
+            Direction::Backward => self.first,
         }
     }
 }

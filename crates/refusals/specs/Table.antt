@@ -1,7 +1,7 @@
 -- The table of refusals: the number of each, and the place that it names.
 use Prim.Native.Nat.{ℕ}
 use Rattle.refusals.specs.declared.refusal.Refusal.{Refusal}
-use Rattle.refusals.specs.declared.refusal.Refusal.the-variants.{Missing, Operand, Branches, Outside, Repeated, NotStep, Full, NoEnds, Unreached, Stranded, Short, NotTenths}
+use Rattle.refusals.specs.declared.refusal.Refusal.the-variants.{Missing, Operand, Branches, Outside, Repeated, NotStep, Full, NoEnds, Unreached, Stranded, TooManyExpressions, Short, NotTenths}
 
 abbrev pub number-of : Refusal → ℕ
 number-of Missing = 1
@@ -14,10 +14,11 @@ number-of Full = 7
 number-of (NoEnds r) = 8
 number-of (Unreached n) = 9
 number-of (Stranded n) = 10
+number-of (TooManyExpressions n) = 11
 number-of Short = 12
 number-of NotTenths = 13
 
--- the region of 8, the node of 9 and 10, else 0
+-- the region of 8, the node of 9 to 11, else 0
 abbrev pub place-of : Refusal → ℕ
 place-of Missing = 0
 place-of Operand = 0
@@ -29,5 +30,6 @@ place-of Full = 0
 place-of (NoEnds r) = r
 place-of (Unreached n) = n
 place-of (Stranded n) = n
+place-of (TooManyExpressions n) = n
 place-of Short = 0
 place-of NotTenths = 0

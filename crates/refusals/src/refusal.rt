@@ -21,6 +21,8 @@ pub enum Refusal {
     Unreached(usize),
     // no path leads from the node to the last node of its region
     Stranded(usize),
+    // the nodes up to this one compute more than 64 expressions
+    TooManyExpressions(usize),
     // a buffer is too short
     Short,
     // bytes that are the text of no number

@@ -19,6 +19,7 @@ impl Refusal {
             Refusal::NoEnds(_) => 8,
             Refusal::Unreached(_) => 9,
             Refusal::Stranded(_) => 10,
+            Refusal::TooManyExpressions(_) => 11,
             Refusal::Short => 12,
             Refusal::NotTenths => 13,
         }
@@ -30,7 +31,9 @@ impl Refusal {
     {
         match self {
             Refusal::NoEnds(region) => region,
-            Refusal::Unreached(node) | Refusal::Stranded(node) => node,
+            Refusal::Unreached(node)
+            | Refusal::Stranded(node)
+            | Refusal::TooManyExpressions(node) => node,
             _ => 0,
         }
     }

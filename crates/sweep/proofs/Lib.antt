@@ -1,0 +1,15 @@
+pub mod Slots
+pub mod Ranks
+pub mod Turns
+pub mod Agreeing
+pub mod Putting
+pub mod Assembled
+pub mod Meets
+pub mod Branches
+pub mod Gathering
+pub mod Homes
+pub mod Entering
+pub mod Owners
+pub mod Sides
+pub mod Values
+pub mod Fronts
