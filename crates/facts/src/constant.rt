@@ -1,5 +1,5 @@
 // What is known of the value of a variable.
-#[derive(Clone, Copy, PartialEq, Eq)]
+#[derive(Clone, Copy, PartialEq, Eq, Debug)]
 pub enum Constant {
     // nothing yet
     Unknown,

@@ -14,7 +14,7 @@ use plan::node::Node;
 use plan::stored::Plan;
 
 // The meet of what a row of effects forces.
-pub fn meet_all<K: Kind>(kind: &K, effects: &[Effect<K::Gate, K::Value>]) -> K::Value
+pub(crate) fn meet_all<K: Kind>(kind: &K, effects: &[Effect<K::Gate, K::Value>]) -> K::Value
     ensures { λ r. ⌜ r ≡ met-of (K·Kind .algebra (now (kind .entry))) (now (effects .entry)) ⌝ }
 {
     let mut all = kind.top();
@@ -26,7 +26,11 @@ pub fn meet_all<K: Kind>(kind: &K, effects: &[Effect<K::Gate, K::Value>]) -> K::
 }
 
 // The meet of what all but one of a row of effects force.
-pub fn meet_others<K: Kind>(kind: &K, effects: &[Effect<K::Gate, K::Value>], one: usize) -> K::Value
+pub(crate) fn meet_others<K: Kind>(
+    kind: &K,
+    effects: &[Effect<K::Gate, K::Value>],
+    one: usize,
+) -> K::Value
     ensures { λ r. ⌜ r ≡ met-but (K·Kind .algebra (now (kind .entry))) (now (effects .entry)) one ⌝ }
 {
     if one >= effects.len() {
@@ -79,7 +83,7 @@ fn region_forces<K: Kind>(
 }
 
 // Puts what the steps in each region force into the region's slot, the highest number first.
-pub fn gather<K: Kind>(plan: &Plan, kind: &K, forces: &mut [Effect<K::Gate, K::Value>])
+pub(crate) fn gather<K: Kind>(plan: &Plan, kind: &K, forces: &mut [Effect<K::Gate, K::Value>])
     requires { ⌜ length (now forces) ≡ length (seen (now plan) .ends) ⌝ }
     ensures { λ _. ⌜ ForcedFrom (K·Kind .algebra (now (kind .entry))) (seen (now (plan .entry))) 0 (now (forces .exit)) ⌝ }
 {

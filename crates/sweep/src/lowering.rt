@@ -72,7 +72,7 @@ fn round<K: Kind>(
 }
 
 // Goes round until no arc of the region brings anything new.
-pub fn settle<K: Kind>(
+pub(crate) fn settle<K: Kind>(
     plan: &Plan,
     kind: &K,
     direction: Direction,

@@ -13,7 +13,7 @@ use plan::node::Node;
 use plan::stored::Plan;
 
 // The first node of a region.
-pub fn home(plan: &Plan, region: usize) -> usize
+pub(crate) fn home(plan: &Plan, region: usize) -> usize
     requires { ⌜ region < length (seen (now plan) .ends) ⌝ }
     ensures { λ r. ⌜ r ≡ home-of (seen (now (plan .entry))) region ⌝ }
 {
@@ -44,7 +44,7 @@ fn enter<K: Kind>(
 }
 
 // Fills in the side value of every region. A fork stands before the forks in its branches, so one pass does it.
-pub fn fill_sides<K: Kind>(
+pub(crate) fn fill_sides<K: Kind>(
     plan: &Plan,
     kind: &K,
     forces: &[Effect<K::Gate, K::Value>],

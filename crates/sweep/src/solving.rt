@@ -76,7 +76,7 @@ fn solve_region<K: Kind>(
 }
 
 // Solves every region: the effect of every node and of every region.
-pub fn solve<K: Kind>(
+pub(crate) fn solve<K: Kind>(
     plan: &Plan,
     kind: &K,
     direction: Direction,

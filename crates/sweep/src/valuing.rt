@@ -55,7 +55,7 @@ fn fill_region<K: Kind>(
 
 // Fills in the value of every node, region by region. A region starts from the value at its fork, which lies in a region of
 // lower number; the outermost from the start value.
-pub fn fill_values<K: Kind>(
+pub(crate) fn fill_values<K: Kind>(
     plan: &Plan,
     kind: &K,
     start: K::Value,
