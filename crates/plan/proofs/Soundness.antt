@@ -1,15 +1,16 @@
 -- Every call that is accepted keeps a plan sound.
 use mathlib.Core.Path.{_≡_, refl, sym, ap, _∙_, subst, subst₂}
 use mathlib.Core.Logic.{_⊎_, inl, inr}
-use mathlib.Core.Bool.{false}
+use mathlib.Core.Bool.{Bool, true, false, cond, not, _||_}
 use mathlib.Core.List.{List, [], _∷_, _++_}
 use Prim.Native.Nat.{ℕ, suc, _+_, _<_, _≤_}
 use native.Mathlib.Nat.{add-zero}
 use native.Mathlib.Omega.{arith}
+use lib.Dec.{leb, ltb}
 use lib.ListN.{length, getD, set, take, replicate, length-append, length-set, length-replicate}
 use lib.Seq.{getD-set-same, getD-set-other}
 use Rattle.std.proofs.shelf.Lists.{getD-append-left, getD-at}
-use Rattle.std.proofs.shelf.Tests.{cases-eq, true≢false}
+use Rattle.std.proofs.shelf.Tests.{cases-eq, true≢false, leb-false, eqb-true, not-false, or-parts}
 use Rattle.std.specs.declared.option.Option.{Option}
 use Rattle.std.specs.declared.option.Option.the-variants.{None, Some}
 use Rattle.plan.specs.declared.statement.Statement.{Statement}
@@ -18,9 +19,12 @@ use Rattle.plan.specs.declared.node.Node.{Node}
 use Rattle.plan.specs.declared.node.Node.the-variants as node
 use Rattle.plan.specs.declared.node.Ends as declared
 use Rattle.plan.specs.declared.node.Arc as declared-arc
+use Rattle.refusals.specs.declared.refusal.Refusal.{Refusal}
+use Rattle.plan.specs.declared.call.Call.{Call}
 use Rattle.plan.specs.declared.call.Call.the-variants.{Lay, Fork, Arc, Ends, Change}
 use Rattle.plan.specs.Drawn.{Drawn, blank, node-at, region-of, width, branches, regions-before, Lies, Joins, Sound}
-use Rattle.plan.specs.Calls.{accepted, is-fork}
+use Rattle.plan.specs.Calls.{accepted, is-fork, no-region, no-node, outside, has-arc, kept-if, after, after-all, drawn}
+use Rattle.plan.specs.Statements.{in-range}
 use Rattle.plan.proofs.Nodes.{branches-++, pushed, in-pushed, region-replaced, in-replaced, branches-replaced, branches-set, getD-copies, ends-more}
 
 -- a node that is not there reads as this one
@@ -142,3 +146,44 @@ module _ (p : Drawn) (s : Sound p) where
           absurd (no-fork (region-of (node-at p n)) r b k st (sym (getD-set-same (p .nodes) n (changed p n st) origin h) ∙ ap (λ (i : ℕ). getD (set (p .nodes) n (changed p n st)) i origin) (sym same) ∙ is))
       still m r b k l is (inr other) =
           s .forked m r b k l (sym (getD-set-other (p .nodes) n m (changed p n st) origin other) ∙ is) ∙ ap suc (sym (branches-replaced (p .nodes) n (changed p n st) origin h narrow m))
+
+-- a test that holds refuses the call, and the plan stays as it was
+unless-refused : (p q : Drawn) (b : Bool) (e : Refusal) (o : Option Refusal) → Sound p → (b ≡ false → Sound (kept-if o p q)) → Sound (kept-if (cond b (Some e) o) p q)
+unless-refused p q true e o s more = s
+unless-refused p q false e o s more = more refl
+
+pub after-sound : (p : Drawn) (c : Call) → Sound p → Sound (after p c)
+after-sound p (Lay r st) s =
+    unless-refused p _ (no-region p r) _ _ s (λ there.
+    unless-refused p _ (not (in-range st)) _ _ s (λ range.
+    unless-refused p _ (leb 256 (length (p .nodes))) _ _ s (λ room. lay-sound p s r st (leb-false _ _ there))))
+after-sound p (Fork r k) s =
+    unless-refused p _ (no-region p r) _ _ s (λ there.
+    unless-refused p _ (ltb k 2 || ltb 8 k) _ _ s (λ count.
+    unless-refused p _ (leb 256 (length (p .nodes)) || ltb 64 (length (p .ends) + k)) _ _ s (λ room. fork-sound p s r k (leb-false _ _ there))))
+after-sound p (Arc m n) s =
+    unless-refused p _ (no-node p m || no-node p n) _ _ s (λ there.
+    unless-refused p _ (outside p (region-of (node-at p m)) n) _ _ s (λ inside.
+    unless-refused p _ (has-arc m n (p .arcs)) _ _ s (λ fresh.
+    unless-refused p _ (leb 1024 (length (p .arcs))) _ _ s (λ room.
+      let both = or-parts _ _ there in
+      arc-sound p s m n (leb-false _ _ (both .0), leb-false _ _ (both .1), sym (eqb-true _ _ (not-false _ inside)))))))
+after-sound p (Ends r f l) s =
+    unless-refused p _ (no-region p r || (no-node p f || no-node p l)) _ _ s (λ there.
+    unless-refused p _ (outside p r f || outside p r l) _ _ s (λ inside.
+      let all = or-parts _ _ there in
+      let nodes = or-parts _ _ (all .1) in
+      let both = or-parts _ _ inside in
+      ends-sound p s r f l (leb-false _ _ (all .0)) (leb-false _ _ (nodes .0), eqb-true _ _ (not-false _ (both .0))) (leb-false _ _ (nodes .1), eqb-true _ _ (not-false _ (both .1)))))
+after-sound p (Change n st) s =
+    unless-refused p _ (no-node p n) _ _ s (λ there.
+    unless-refused p _ (not (in-range st)) _ _ s (λ range.
+    unless-refused p _ (is-fork (node-at p n)) _ _ s (λ step. change-sound p s n st (leb-false _ _ there) step)))
+
+after-all-sound : (p : Drawn) (cs : List Call) → Sound p → Sound (after-all p cs)
+after-all-sound p [] s = s
+after-all-sound p (c ∷ cs) s = after-all-sound (after p c) cs (after-sound p c s)
+
+-- every row of calls draws a sound plan
+pub drawn-sound : (cs : List Call) → Sound (drawn cs)
+drawn-sound cs = after-all-sound blank cs blank-sound

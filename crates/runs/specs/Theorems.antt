@@ -3,8 +3,10 @@ use mathlib.Core.Path.{_≡_}
 use mathlib.Core.List.{List, [], _∷_, _++_}
 use Prim.Native.Nat.{ℕ, _<_}
 use lib.ListN.{length}
+use Rattle.plan.specs.declared.call.Call.{Call}
 use Rattle.plan.specs.declared.node.Direction.{Direction}
 use Rattle.plan.specs.Drawn.{Drawn, node-at, region-of, Sound}
+use Rattle.plan.specs.Calls.{drawn}
 use Rattle.plan.specs.Paths.{Whole}
 use Rattle.facts.specs.declared.effect.Effect.{Effect}
 use Rattle.facts.specs.Kinds.{Algebra}
@@ -46,6 +48,10 @@ Solvable {V} {G} a p d start = (nodes regions : ℕ → Effect G V) × (forces s
 -- what the theorems ask for can be had: the sample plan has all of it, in either direction and from any start value
 abbrev pub Premises-met : {V G : Type 0} → Algebra V G → Type 0
 Premises-met {V} a = Sound sample × Whole sample × ((d : Direction) (start : V) → Solvable a sample d start)
+
+-- every row of calls, refused or not, draws a sound plan
+abbrev pub Rows-sound : Type 0
+Rows-sound = (row : List Call) → Sound (drawn row)
 
 -- an approach is a beginning of a full word, and a beginning that ends in a step is, without it, an approach to the step
 abbrev pub Beginnings : Type 0
