@@ -166,15 +166,15 @@ after-sound p (Arc m n) s =
     unless-refused p _ (outside p (region-of (node-at p m)) n) _ _ s (λ inside.
     unless-refused p _ (has-arc m n (p .arcs)) _ _ s (λ fresh.
     unless-refused p _ (leb 1024 (length (p .arcs))) _ _ s (λ room.
-      let both = or-parts _ _ there in
-      arc-sound p s m n (leb-false _ _ (both .0), leb-false _ _ (both .1), sym (eqb-true _ _ (not-false _ inside)))))))
+    let both = or-parts _ _ there in
+    arc-sound p s m n (leb-false _ _ (both .0), leb-false _ _ (both .1), sym (eqb-true _ _ (not-false _ inside)))))))
 after-sound p (Ends r f l) s =
     unless-refused p _ (no-region p r || (no-node p f || no-node p l)) _ _ s (λ there.
     unless-refused p _ (outside p r f || outside p r l) _ _ s (λ inside.
-      let all = or-parts _ _ there in
-      let nodes = or-parts _ _ (all .1) in
-      let both = or-parts _ _ inside in
-      ends-sound p s r f l (leb-false _ _ (all .0)) (leb-false _ _ (nodes .0), eqb-true _ _ (not-false _ (both .0))) (leb-false _ _ (nodes .1), eqb-true _ _ (not-false _ (both .1)))))
+    let all = or-parts _ _ there in
+    let nodes = or-parts _ _ (all .1) in
+    let both = or-parts _ _ inside in
+    ends-sound p s r f l (leb-false _ _ (all .0)) (leb-false _ _ (nodes .0), eqb-true _ _ (not-false _ (both .0))) (leb-false _ _ (nodes .1), eqb-true _ _ (not-false _ (both .1)))))
 after-sound p (Change n st) s =
     unless-refused p _ (no-node p n) _ _ s (λ there.
     unless-refused p _ (not (in-range st)) _ _ s (λ range.
