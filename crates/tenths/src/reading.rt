@@ -32,7 +32,7 @@ fn mark_of(byte: u8) -> Mark
 }
 
 // Takes the minus off a text, if it has one.
-pub fn split_sign(text: &[u8]) -> (bool, &[u8])
+pub(crate) fn split_sign(text: &[u8]) -> (bool, &[u8])
     ensures { λ r. ⌜ Parted (now (text .entry)) (r .0) (now (r .1)) ⌝ }
 {
     match text {
@@ -78,7 +78,7 @@ fn read_whole(digits: &[u8]) -> Option<u32>
 }
 
 // The size that a text with no sign writes.
-pub fn read_size(text: &[u8]) -> Option<u32>
+pub(crate) fn read_size(text: &[u8]) -> Option<u32>
     ensures { λ r. ⌜ Spelt size-text largest-size (now (text .entry)) r ⌝ }
 {
     let [digits @ .., dot, last] = text else {
@@ -95,7 +95,7 @@ pub fn read_size(text: &[u8]) -> Option<u32>
 }
 
 // The number of a sign and a size.
-pub fn with_sign(negative: bool, size: u32) -> Result<i32, Refusal>
+pub(crate) fn with_sign(negative: bool, size: u32) -> Result<i32, Refusal>
     ensures { λ r. ⌜ Reads (minus-first negative (size-text size)) r ⌝ }
 {
     // `-0.0` is the text of no number

@@ -7,7 +7,7 @@ ghost use Rattle.std.specs.Written.{decimal};
 ghost use Rattle.tenths.specs.Text.{size-text, text-of};
 
 // The bytes of the longest text, `-214748364.8`.
-pub const LONGEST: usize = 12;
+pub(crate) const LONGEST: usize = 12;
 
 // Puts the digits of a whole part before the last two bytes, and answers where they start.
 fn put_whole(whole: u32, text: &mut [u8; LONGEST]) -> usize
@@ -37,7 +37,7 @@ fn put_size(size: u32, text: &mut [u8; LONGEST]) -> usize
 }
 
 // Puts a number at the end, and answers where it starts.
-pub fn put_number(number: i32, text: &mut [u8; LONGEST]) -> usize
+pub(crate) fn put_number(number: i32, text: &mut [u8; LONGEST]) -> usize
     ensures { λ r. ⌜ (r < 12) × (drop r (now (text .exit)) ≡ text-of number) ⌝ }
 {
     let negative = number < 0;
