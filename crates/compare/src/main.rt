@@ -1,4 +1,6 @@
 // Draws many small plans, and compares what the library finds with what a listing of their runs leaves.
+#![tactic(auto)]
+
 use answers::{compare_dead, compare_fixed, compare_redundant};
 use bitset::bits::Bits;
 use comparing::compare_both_ways;

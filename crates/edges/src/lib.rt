@@ -1,4 +1,6 @@
 // Examples at the edges of what the library takes: each limit, and one past it.
+#![tactic(auto)]
+
 #[cfg(test)]
 mod drawing;
 #[cfg(test)]

@@ -1,4 +1,6 @@
 // The variables that statements name, and the expressions that they compute, numbered.
+#![tactic(auto)]
+
 pub mod computing;
 pub mod expression;
 pub mod numbering;

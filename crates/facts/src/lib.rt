@@ -1,4 +1,6 @@
 // The kinds of facts: available expressions, dead variables, fixed values.
+#![tactic(auto)]
+
 pub mod available;
 pub mod bitwise;
 pub mod constant;

@@ -1,4 +1,6 @@
 // Logger plans: how they are drawn, and when they are whole.
+#![tactic(auto)]
+
 pub mod call;
 pub mod conditions;
 pub mod drawing;

@@ -1,4 +1,6 @@
 // What may be struck from a plan.
+#![tactic(auto)]
+
 pub mod event;
 mod finding;
 pub mod fixing;

@@ -1,4 +1,6 @@
 // What the runs of a plan do to facts. Each function here states theorems, for any kind of fact, and does nothing.
+#![tactic(auto)]
+
 ghost use Rattle.runs.specs.Theorems.{NodesExact, RegionsExact, ValuesExact, SolutionsAgree, PremisesMet, RowsSound, Beginnings};
 
 use kinds::kind::Kind;

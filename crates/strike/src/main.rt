@@ -1,4 +1,6 @@
 // Draws a plan, and prints its report.
+#![tactic(auto)]
+
 use facts::constant::Constant;
 use facts::fixed::Fixed;
 use kinds::effects::passing;

@@ -1,4 +1,6 @@
 // Sweeps a plan: finds, for every node, what all runs that reach it leave of a start value.
+#![tactic(auto)]
+
 mod forcing;
 pub mod joined;
 mod lowering;

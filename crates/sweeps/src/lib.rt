@@ -1,3 +1,5 @@
 // Sweeps of a small plan, as tests: two probe readings in a branch, beside another branch.
+#![tactic(auto)]
+
 #[cfg(test)]
 mod examples;

@@ -1,4 +1,6 @@
 // A signed count of tenths of a degree, written and read as text: -4 is `-0.4`.
+#![tactic(auto)]
+
 ghost use Rattle.tenths.specs.Text.{Writes, Reads, Inverse};
 
 use reading::{read_size, split_sign, with_sign};
