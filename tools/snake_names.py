@@ -17,7 +17,7 @@ WORD = r"[A-Za-z_][A-Za-z0-9_']*(?:-[A-Za-z0-9_']+)*"
 TOKEN = re.compile(r"(?<![A-Za-z0-9_'-])" + WORD)
 # where the plain spelling is a word of the library already, and where port.py took a word for a type
 OTHERWISE = {"bit-and": "bit_of_and", "bit-or": "bit_of_or", "Home-of": "home_of"}
-HEAD = re.compile(r"^\s*(?:(?:abbrev|unfoldable|opaque|pub|record|data)\s+)*(" + WORD + r")\s*(?::|\(|\{)")
+HEAD = re.compile(r"^\s*(?:(?:abbrev|unfoldable|opaque|pub)\s+)*(?:(?:record|data)\s+(?=" + WORD + r"\s*[:({]))?(" + WORD + r")(?<![:,])(?:\s+:\s|\s*[({].*Type 0 where)")
 # a helper lemma beside the answers, whose statement is no goal
 HELPER = re.compile(r"^(" + WORD + r") : (?!goal\.)\S")
 # another name that a file gives to what it brings in
@@ -68,14 +68,27 @@ def spelled(name):
     return "_".join(parts)
 
 
+def of_library(text):
+    """The words that a file brings in from elsewhere than this repository."""
+    found = set()
+    for line in text.split("\n"):
+        use = re.match(r"(?:pub |ghost )*use ([^\s{]+)\.\{(.*)\}", line)
+        if use and not re.match(r"Rattle\.(?:" + "|".join(os.listdir("crates")) + r")\.", use.group(1)):
+            found |= set(TOKEN.findall(use.group(2)))
+    return found
+
+
 def turned(text, names):
-    return TOKEN.sub(lambda m: names.get(m.group(0), m.group(0)), text)
+    kept = of_library(text)
+    return TOKEN.sub(lambda m: m.group(0) if m.group(0) in kept else names.get(m.group(0), m.group(0)), text)
 
 
 def turned_source(text, names):
     """Comments of src/ are prose, and stay."""
     lines = text.split("\n")
-    return "\n".join(x if x.lstrip().startswith("//") else turned(x, names) for x in lines)
+    kept = of_library(text)
+    rest = {old: new for old, new in names.items() if old not in kept}
+    return "\n".join(x if x.lstrip().startswith("//") else turned(x, rest) for x in lines)
 
 
 def main():

@@ -2,7 +2,7 @@
 -- and a test finds it stable.
 use Rattle.std.proofs.Common.{◌≡◌, ℕ, zero, suc, ◌<◌, Bool, true, false, cond, not, ◌&&◌, ◌||◌, List, [], ◌∷◌, ◌++◌, length, get_or, Some, None, Option, sym, refl, ap, ◌∙◌, subst, inl, inr, arith}
 use borrow.Author.Tests.{clash}
-use Rattle.std.proofs.lemmas.Bool.{and_parts, cases_eq, cond-true, cond-false, not_true}
+use Rattle.std.proofs.lemmas.Bool.{and_parts, cases_eq, cond-true, cond-false, not-true}
 use Rattle.plan.specs.declared.node.Arc.{Arc}
 use Rattle.plan.specs.declared.node.Ends.{Ends}
 use Rattle.plan.specs.declared.node.Direction.{Direction}
@@ -161,7 +161,7 @@ module _ (p : Drawn) (d : Direction) (zeroed raised : ℕ → Bool) (target : �
       woven_does (Woven.more {q = q} {qs = qs} h hs m) = does_beside zeroed raised (entire q) (joint entire qs) m (full_does h) (woven_does hs)
 
     spared_node : (b c e : Bool) → (not b || (not c && e)) ≡ true → b ≡ true → (c ≡ false) × (e ≡ true)
-    spared_node true c e h i = let t = and_parts (not c) e h in (not_true c t.0, t.1)
+    spared_node true c e h i = let t = and_parts (not c) e h in (not-true c t.0, t.1)
     spared_node false c e h i = absurd (clash i)
 
     inside_spared : {r n : ℕ} → Inside p r n → spares r ≡ true → zeroed n ≡ false

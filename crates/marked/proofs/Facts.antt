@@ -1,7 +1,7 @@
 -- How a fact of a plan is shown: that it is so, by a certificate; that it is not, by a run.
 use Rattle.std.proofs.Common.{◌≡◌, ℕ, Bool, true, false, cond, not, ◌&&◌, eqb, ◌↔◌, List, [], ◌∷◌, ℤ, None, sym, refl, ap, ◌∙◌, subst, inl, inr, arith, eqb-true}
 use mathlib.Core.Bool.{or-false}
-use borrow.Author.Tests.{clash, not_true}
+use borrow.Author.Tests.{clash, not-true}
 use Rattle.std.proofs.lemmas.Bool.{not_from_false}
 use Rattle.plan.specs.declared.node.Direction.TheVariants.{Forward, Backward}
 use Rattle.plan.specs.Drawn.{Drawn, node_at, Sound}
@@ -70,7 +70,7 @@ module _ (p : Drawn) where
   bit_unread : (v kept : ℕ) (w : List ℕ) → (along (uses v) (assigns v) w (not (bit v kept)) ≡ true) ↔ Unread p v kept w
   bit_unread v kept w =
       let l = along_law (uses v) (assigns v) w (not (bit v kept)) in (
-        λ h. elim (l.0 h) [ inl t ↦ inl (not_true (bit v kept) t.0, t.1) | inr t ↦ inr t ],
+        λ h. elim (l.0 h) [ inl t ↦ inl (not-true (bit v kept) t.0, t.1) | inr t ↦ inr t ],
         λ u. l.1 (elim u [ inl t ↦ inl (not_from_false (bit v kept) t.0, t.1) | inr t ↦ inr t ]),
       )
 

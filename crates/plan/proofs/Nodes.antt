@@ -1,5 +1,5 @@
 -- Lists of nodes and of ends, with one more or with one replaced.
-use Rattle.std.proofs.Common.{◌≡◌, ℕ, zero, suc, ◌+◌, ◌<◌, ◌≤◌, ◌≢◌, ◌⊎◌, List, [], ◌∷◌, ◌++◌, length, get_or, take, set, replicate, Some, None, Option, sym, refl, ap, ◌∙◌, subst, subst₂, inl, inr, add_assoc, zero-add, arith, length_append, length-set, take_all, get_or-set_other, get_or-set_same}
+use Rattle.std.proofs.Common.{◌≡◌, ℕ, zero, suc, ◌+◌, ◌<◌, ◌≤◌, ◌≢◌, ◌⊎◌, List, [], ◌∷◌, ◌++◌, length, get_or, take, set, replicate, Some, None, Option, sym, refl, ap, ◌∙◌, subst, subst₂, inl, inr, add_assoc, zero-add, arith, length-append, length-set, take_all, get_or-set_other, get_or-set_same}
 use lib.Seq.{take-append-le, take-append_seam}
 use Rattle.std.proofs.lemmas.List.{get_or_append_left, get_or_at}
 use Rattle.std.proofs.lemmas.Bool.{cases_eq}
@@ -22,7 +22,7 @@ pushed {X} P ns x d old new n h = go (cases_eq n (length ns))
         subst (λ (m : ℕ). P m (get_or (ns ++ (x ∷ [])) m d) (take m (ns ++ (x ∷ [])))) (sym e)
         (subst₂ (λ (y : X) (ms : List X). P (length ns) y ms) (sym (get_or_at ns x [] d (length ns) refl)) (sym (take-append_seam ns (x ∷ []))) new)
     go (inr e) =
-        let l : n < length ns = omega (arith, h, length_append ns (x ∷ [])) in
+        let l : n < length ns = omega (arith, h, length-append ns (x ∷ [])) in
         subst₂ (λ (y : X) (ms : List X). P n y ms) (sym (get_or_append_left ns (x ∷ []) d n l)) (sym (take-append-le n ns (x ∷ []) (omega arith))) (old n l)
 
 -- the node is there and lies in the region
@@ -30,7 +30,7 @@ abbrev pub In : List Node → Node → ℕ → ℕ → Type 0
 In ns d r n = (n < length ns) × (region_of (get_or ns n d) ≡ r)
 
 pub in_pushed : (ns : List Node) (x d : Node) (r n : ℕ) → In ns d r n → In (ns ++ (x ∷ [])) d r n
-in_pushed ns x d r n h = (omega (arith, h.0, length_append ns (x ∷ [])), ap region_of (get_or_append_left ns (x ∷ []) d n h.0) ∙ h.1)
+in_pushed ns x d r n h = (omega (arith, h.0, length-append ns (x ∷ [])), ap region_of (get_or_append_left ns (x ∷ []) d n h.0) ∙ h.1)
 
 -- a node replaced by one of the same region
 pub region_replaced : (ns : List Node) (i : ℕ) (x d : Node) → region_of x ≡ region_of (get_or ns i d) → (n : ℕ) → n < length ns → region_of (get_or (set ns i x) n d) ≡ region_of (get_or ns n d)

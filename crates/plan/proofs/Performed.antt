@@ -1,11 +1,11 @@
 -- A row of calls, one call after another.
-use Rattle.std.proofs.Common.{◌≡◌, ℕ, ◌+◌, ◌<◌, List, [], ◌∷◌, ◌++◌, length, get_or, drop, Result, sym, ap, ◌∙◌, ap₂, append_assoc}
+use Rattle.std.proofs.Common.{◌≡◌, ℕ, ◌+◌, ◌<◌, List, [], ◌∷◌, ◌++◌, length, get_or, drop, None, Some, Option, Err, Result, sym, ap, ◌∙◌, ap₂, append_assoc}
 use Rattle.std.proofs.lemmas.List.{at_drop_more}
 use Rattle.refusals.specs.declared.refusal.Refusal.{Refusal}
 use Rattle.plan.specs.declared.call.Call.{Call}
 use Rattle.plan.specs.declared.call.Made.{Made}
 use Rattle.plan.specs.Drawn.{Drawn}
-use Rattle.plan.specs.Calls.{after, answer, after_all, answers_of}
+use Rattle.plan.specs.Calls.{unless, after, answer, after_all, answers_of}
 
 -- after call i, which led from plan p to plan q, the calls from i + 1 on are left
 module _ (calls : List Call) (i : ℕ) (d : Call) (within : i < length calls) (p q : Drawn) (next : q ≡ after p (get_or calls i d)) where
@@ -17,3 +17,8 @@ module _ (calls : List Call) (i : ℕ) (d : Call) (within : i < length calls) (p
   answers_more before now all new so_far =
       ap₂ (λ (rs : List (Result Made Refusal)) (r : Drawn). rs ++ answers_of r (drop (i + 1) calls)) new next
       ∙ append_assoc before _ _ ∙ ap (λ (rs : List (Result Made Refusal)). before ++ rs) (sym (at_drop_more (answers_of p) calls i d within)) ∙ so_far
+
+-- a refusal is the same whatever the answer would have been
+pub refused_alike : {X Y : Type 0} (o : Option Refusal) (x : X) (y : Y) (e : Refusal) → ◌≡◌ {A = Result X Refusal} (Err e) (unless o x) → ◌≡◌ {A = Result Y Refusal} (Err e) (unless o y)
+refused_alike None x y e is = cc
+refused_alike (Some f) x y e is = let same : e ≡ f = cc in ap Err same

@@ -1,5 +1,5 @@
 -- Every call that is accepted keeps a plan sound.
-use Rattle.std.proofs.Common.{◌≡◌, ℕ, suc, ◌+◌, ◌<◌, ◌≤◌, Bool, true, false, cond, not, ◌||◌, ltb, leb, ◌⊎◌, List, [], ◌∷◌, ◌++◌, length, get_or, take, set, replicate, Some, None, Option, sym, refl, ap, ◌∙◌, subst, subst₂, inl, inr, add-zero, arith, length_append, length-set, get_or-set_other, get_or-set_same}
+use Rattle.std.proofs.Common.{◌≡◌, ℕ, suc, ◌+◌, ◌<◌, ◌≤◌, Bool, true, false, cond, not, ◌||◌, ltb, leb, ◌⊎◌, List, [], ◌∷◌, ◌++◌, length, get_or, take, set, replicate, Some, None, Option, sym, refl, ap, ◌∙◌, subst, subst₂, inl, inr, add-zero, arith, length-append, length-set, get_or-set_other, get_or-set_same}
 use lib.ListN.{length-replicate}
 use Rattle.std.proofs.lemmas.List.{get_or_append_left, get_or_at}
 use Rattle.std.proofs.lemmas.Bool.{cases_eq, true≢false, leb-false, eqb-true, not-false, or_parts}
@@ -85,7 +85,7 @@ module _ (p : Drawn) (s : Sound p) where
   fork_sound r k h =
       let x : Node = node.Fork r (length p.ends) k in
       record {
-        counted = length_append p.ends (replicate k None) ∙ simp length-replicate (omega (arith, s.counted, branches-++ p.nodes (x ∷ [])));
+        counted = length-append p.ends (replicate k None) ∙ simp length-replicate (omega (arith, s.counted, branches-++ p.nodes (x ∷ [])));
         placed = placed_pushed x h;
         ranged = ranged_pushed x refl;
         forked = forked_pushed x (λ f b j e. (let same : b ≡ length p.ends = cc in same ∙ s.counted));

@@ -1,5 +1,5 @@
 -- A listed step finds its expression computed by a step that is not listed.
-use Rattle.std.proofs.Common.{◌≡◌, ℕ, zero, suc, ◌+◌, ◌<◌, ◌≤◌, Bool, true, false, List, [], ◌∷◌, ◌++◌, length, sym, refl, ap, ◌∙◌, subst, append_assoc, arith, length_append}
+use Rattle.std.proofs.Common.{◌≡◌, ℕ, zero, suc, ◌+◌, ◌<◌, ◌≤◌, Bool, true, false, List, [], ◌∷◌, ◌++◌, length, sym, refl, ap, ◌∙◌, subst, append_assoc, arith, length-append}
 use Rattle.plan.specs.declared.node.Direction.TheVariants.{Forward}
 use Rattle.plan.specs.Drawn.{Drawn, Sound}
 use Rattle.plan.specs.Paths.{Whole}
@@ -51,7 +51,7 @@ module _ (p : Drawn) (sound : Sound p) (whole : Whole p) where
     backed_by e n w x shorter a false q = record { before = a.before; at = a.at; behind = a.behind; cut = a.cut; is = (a.is, q); kept = a.kept }
     backed_by e n w x shorter a true q =
         let c = run_cut x a.before a.at a.behind a.cut in
-        let b = shorter a.at a.before (omega (arith, simp length_append at (ap length a.cut))) c.1 a.is q c.0 in
+        let b = shorter a.at a.before (omega (arith, simp length-append at (ap length a.cut))) c.1 a.is q c.0 in
         record {
           before = b.before;
           at = b.at;

@@ -1,5 +1,5 @@
 -- The texts of numbers.
-use Rattle.std.proofs.Common.{◌≡◌, ℕ, ◌+◌, ◌/◌, ◌%◌, ◌^◌, ◌<◌, ◌≤◌, List, [], ◌∷◌, ◌++◌, length, take, drop, ℤ, Ok, decimal, sym, ap, ◌∙◌, arith, length_append}
+use Rattle.std.proofs.Common.{◌≡◌, ℕ, ◌+◌, ◌/◌, ◌%◌, ◌^◌, ◌<◌, ◌≤◌, List, [], ◌∷◌, ◌++◌, length, take, drop, ℤ, Ok, decimal, sym, ap, ◌∙◌, arith, length-append}
 use Rattle.std.proofs.lemmas.List.{take_at, length_push}
 use Rattle.std.proofs.lemmas.Fmt.{decimal_digit, decimal_step}
 use Rattle.tenths.specs.Text.{text_of, Writes}
@@ -9,7 +9,7 @@ module _ (n : ℤ) (before after : List ℕ) (k : ℕ) (w : Writes n before afte
   label_front = ap (take k) w.2 ∙ take_at (text_of n) (drop k before) k (sym w.1)
 
   pub label_short : k ≤ length after
-  label_short = omega (arith, w.1, ap length w.2, length_append (text_of n) (drop k before))
+  label_short = omega (arith, w.1, ap length w.2, length-append (text_of n) (drop k before))
 
 -- ---- decimal numbers
 

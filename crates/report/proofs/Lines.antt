@@ -1,5 +1,5 @@
 -- The lines of a report, told in the parts in which they are put.
-use Rattle.std.proofs.Common.{◌≡◌, ℕ, zero, suc, ◌+◌, ◌<◌, ◌≤◌, Bool, true, false, cond, ◌⊎◌, List, [], ◌∷◌, ◌++◌, length, ℤ, Some, codes, decimal, Option, sym, ap, subst, ap₂, inl, inr, add-one, arith, length_append}
+use Rattle.std.proofs.Common.{◌≡◌, ℕ, zero, suc, ◌+◌, ◌<◌, ◌≤◌, Bool, true, false, cond, ◌⊎◌, List, [], ◌∷◌, ◌++◌, length, ℤ, Some, codes, decimal, Option, sym, ap, subst, ap₂, inl, inr, add-one, arith, length-append}
 use Rattle.std.proofs.lemmas.List.{append_assoc}
 use Rattle.std.proofs.lemmas.Bool.{cases_eq}
 use Rattle.tenths.specs.Text.{text_of}
@@ -43,7 +43,7 @@ lines_grow f n zero h = let same : n ≡ 0 = omega (arith, h) in subst (λ (k : 
 lines_grow f n (suc m) h =
     elim (cases_eq n (suc m)) [
       | inl same ↦ omega (arith, ap (λ (k : ℕ). length (lines_to f k)) same)
-      | inr other ↦ omega (arith, lines_grow f n m (omega (arith, h, other)), length_append (lines_to f m) (node_lines f m))
+      | inr other ↦ omega (arith, lines_grow f n m (omega (arith, h, other)), length-append (lines_to f m) (node_lines f m))
     ]
 
 pub count_with : (has : ℕ → Bool) (n m k : ℕ) (b : Bool) → has n ≡ b → m ≡ count_to has n → k ≡ m + cond b 1 0 → k ≡ count_to has (n + 1)
@@ -51,4 +51,4 @@ count_with has n m k b is so_far next = omega (arith, next, so_far, count_more h
 
 pub node_room : (f : Findings) (n count total behind : ℕ) → behind ≡ 0 + length (lines_to f n) → n < count → length (lines_to f count) ≤ total → behind + length (node_lines f n) ≤ total
 node_room f n count total behind is h room =
-    omega (arith, is, room, lines_grow f (n + 1) count (omega (arith, h)), ap length (lines_more f n), length_append (lines_to f n) (node_lines f n))
+    omega (arith, is, room, lines_grow f (n + 1) count (omega (arith, h)), ap length (lines_more f n), length-append (lines_to f n) (node_lines f n))

@@ -1,5 +1,5 @@
 -- One text put behind another.
-use Rattle.std.proofs.Common.{◌≡◌, ℕ, ◌+◌, ◌≤◌, List, [], ◌∷◌, ◌++◌, length, take, drop, sym, refl, ap, ◌∙◌, subst, add-zero, arith, length_append, rules}
+use Rattle.std.proofs.Common.{◌≡◌, ℕ, ◌+◌, ◌≤◌, List, [], ◌∷◌, ◌++◌, length, take, drop, sym, refl, ap, ◌∙◌, subst, add-zero, arith, length-append, rules}
 use borrow.Rule.Slice.PartMut.{put_mid}
 use Rattle.std.proofs.lemmas.List.{append-nil, append_assoc, drop-drop, places, take-append-drop}
 use Rattle.std.proofs.lemmas.Slice.{take-put_mid, drop-put_mid}
@@ -20,7 +20,7 @@ put_none bytes at = record { ends = sym (add-zero at); front = sym (append-nil (
 
 pub put_then : {bytes middle last s t : List ℕ} {at m n : ℕ} → Put bytes at s middle m → Put middle m t last n → Put bytes at (s ++ t) last n
 put_then {bytes} {middle} {last} {s} {t} {at} {m} {n} p q = record {
-  ends = omega (arith, p.ends, q.ends, length_append s t);
+  ends = omega (arith, p.ends, q.ends, length-append s t);
   front = q.front ∙ ap (λ (u : List ℕ). u ++ t) p.front ∙ append_assoc (take at bytes) s t;
   rest = q.rest ∙ further middle ∙ ap (drop (length t)) p.rest ∙ sym (further bytes);
   long = q.long ∙ p.long;
@@ -37,10 +37,10 @@ put_whole {bytes} {text} {bytes'} {n} p =
 -- ---- room for a text of two parts
 
 pub room_first : (n at : ℕ) (s t : List ℕ) → at + length (s ++ t) ≤ n → at + length s ≤ n
-room_first n at s t h = omega (arith, h, length_append s t)
+room_first n at s t h = omega (arith, h, length-append s t)
 
 pub room_then : {bytes middle s : List ℕ} {at m : ℕ} (t : List ℕ) → Put bytes at s middle m → at + length (s ++ t) ≤ length bytes → m + length t ≤ length middle
-room_then {s = s} t p h = omega (arith, h, p.ends, p.long, length_append s t)
+room_then {s = s} t p h = omega (arith, h, p.ends, p.long, length-append s t)
 
 -- the same text, told in another way
 pub put_as : {bytes bytes' s t : List ℕ} {at n : ℕ} → s ≡ t → Put bytes at s bytes' n → Put bytes at t bytes' n

@@ -1,5 +1,5 @@
 -- A buffer whose front was filled.
-use Rattle.std.proofs.Common.{◌≡◌, ℕ, ◌+◌, ◌-◌, ◌<◌, ◌≤◌, List, ◌++◌, length, get_or, drop, sym, refl, ap, ◌∙◌, arith, length_append, length-drop}
+use Rattle.std.proofs.Common.{◌≡◌, ℕ, ◌+◌, ◌-◌, ◌<◌, ◌≤◌, List, ◌++◌, length, get_or, drop, sym, refl, ap, ◌∙◌, arith, length-append, length-drop}
 use Rattle.std.proofs.lemmas.List.{get_or_append_left, get_or-append-add, get_or-drop}
 use Rattle.sweep.specs.Swept.{KeptFrom}
 
@@ -13,5 +13,5 @@ module _ {X : Type 0} (part before : List X) (m n : ℕ) (is : m ≡ n) (long : 
         let at : k ≡ length part + (k - n) = omega (arith, h, long) in
         ap (λ (i : ℕ). get_or (part ++ drop (m - 0) before) i x) at ∙ get_or-append-add part (drop (m - 0) before) (k - n) x ∙ get_or-drop (m - 0) before (k - n) x
         ∙ ap (λ (i : ℕ). get_or before i x) (omega (arith, h, is));
-    long = length_append part (drop (m - 0) before) ∙ omega (arith, length-drop (m - 0) before, is, long, room);
+    long = length-append part (drop (m - 0) before) ∙ omega (arith, length-drop (m - 0) before, is, long, room);
   }

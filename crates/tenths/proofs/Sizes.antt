@@ -1,7 +1,7 @@
 -- The text of a size.
 use Rattle.std.proofs.Common.{◌≡◌, ℕ, ◌+◌, ◌-◌, ◌*◌, ◌/◌, ◌%◌, ◌^◌, ◌<◌, ◌≤◌, List, [], ◌∷◌, ◌++◌, length, get_or, take, decimal, sym, ap, ◌∙◌, ap₂, ⊎_elim, append_assoc, arith}
 use Rattle.std.proofs.lemmas.Fmt.{decimal_nonempty, decimal_digit, first_decimal, decimal_injective}
-use Rattle.std.proofs.lemmas.List.{same_from_push, get_or_append_left, length_append, take_all, take_more}
+use Rattle.std.proofs.lemmas.List.{same_from_push, get_or_append_left, length-append, take_all, take_more}
 use Rattle.std.proofs.lemmas.Bool.{cases_lt}
 use Rattle.tenths.specs.Text.{size_text}
 
@@ -44,7 +44,7 @@ last_two text two =
 
 -- the text of a size has two bytes and more
 pub size_long : (n : ℕ) → n < 2 ^ 64 → 2 ≤ length (size_text n)
-size_long n fits = omega (arith, length_append (decimal (n / 10)) (46 ∷ (48 + n % 10) ∷ []))
+size_long n fits = omega (arith, length-append (decimal (n / 10)) (46 ∷ (48 + n % 10) ∷ []))
 
 -- its last two bytes are a dot and a digit, after the whole part
 pub size_parts : (text : List ℕ) (n : ℕ) → 2 ≤ length text → text ≡ size_text n

@@ -6,8 +6,8 @@ use Rattle.plan.proofs.drawing.add_regions.Goals as goal
 pub loop-done-preserved : goal.loop-done-preserved
 loop-done-preserved c =
     let old = vec_items c.args.regions.now in (
-      c.push-reserved.ensures.items ∙ ap (λ (es : List (Option Ends)). es ++ (None ∷ [])) c.loop-done.invariant.0 ∙ append_assoc old _ _
-          ∙ ap (λ (es : List (Option Ends)). old ++ es) (replicate-append-replicate c.loop-done.-done 1 None),
+      c.push_reserved.ensures.items ∙ ap (λ (es : List (Option Ends)). es ++ (None ∷ [])) c.loop-done.invariant.0 ∙ append_assoc old _ _
+          ∙ ap (λ (es : List (Option Ends)). old ++ es) (replicate-append-replicate c.loop-done._done 1 None),
       omega arith,
       omega arith,
     )

@@ -12,7 +12,7 @@ loop-call-preserved c =
     let l = c.loop-call in
     let calls = c.args.calls.now in
     let next = c.perform.ensures.plan in
-    let pushed = c.in-ok-push.ensures.items ∙ ap (λ (r : Result Made Refusal). vec_items l.answers ++ (r ∷ [])) c.perform.ensures.answer in (
+    let pushed = c.in_ok-push.ensures.items ∙ ap (λ (r : Result Made Refusal). vec_items l.answers ++ (r ∷ [])) c.perform.ensures.answer in (
       plan_more calls l.call-index _ c.loop-call-test.true (seen l.plan) (seen c.perform.new.self) next _ l.invariant.0,
       answers_more calls l.call-index _ c.loop-call-test.true (seen l.plan) (seen c.perform.new.self) next (vec_items l.answers) (vec_items c.push.new.self) _ pushed l.invariant.1,
     )

@@ -1,20 +1,20 @@
-use Rattle.std.proofs.Common.{refl, arith, rules}
+use Rattle.std.proofs.Common.{◌≡◌, ℕ, refl, ap, set, arith, rules}
 use mathlib.Core.Logic.{∥∥₁_map}
-use Rattle.std.proofs.lemmas.List.{get_or_read}
+use Rattle.std.proofs.lemmas.List.{get_or_read, length-set}
+use Rattle.plan.specs.declared.node.Node.TheVariants.{Step}
+use Rattle.plan.specs.Drawn.{node_at, region_of}
 use Rattle.plan.specs.Stored.{seen}
 use Rattle.plan.proofs.Soundness.{sound_as, change_sound}
 use Rattle.plan.proofs.stored.Plan.change.Goals as goal
 
-pub invariant-of-self : goal.invariant-of-self
-invariant-of-self c =
-    let old = c.args.self.now in (
-      search rules,
-      (
-        search rules,
-        (
-          ∥∥₁_map old.sound
-              (λ s. sound_as _ _ (search (rules, get_or_read)) refl refl (change_sound (seen old) s c.args.node c.args.statement (omega arith) (search (rules, get_or_read)) (search rules))),
-          tt,
-        ),
-      ),
-    )
+pub invariant_of-self-clause-sound : goal.invariant_of-self-clause-sound
+invariant_of-self-clause-sound c =
+    let old = c.args.self.now in
+    let region : c.in-Step.region ≡ region_of (node_at (seen old) c.args.node) = search (rules, get_or_read) in
+    ∥∥₁_map old.sound
+    (λ s. sound_as _ _ (ap (λ (r : ℕ). set old.nodes.items c.args.node (Step r c.args.statement)) region) refl refl (change_sound (seen old) s c.args.node c.args.statement (omega arith) (search (rules, get_or_read)) (search rules)))
+
+pub invariant_of-self-clause-small : goal.invariant_of-self-clause-small
+invariant_of-self-clause-small c =
+    let old = c.args.self.now in
+    (omega (arith, old.small.0, length-set old.nodes.items c.args.node (Step c.in-Step.region c.args.statement)), old.small.1, old.small.2)

@@ -4,16 +4,8 @@ use Rattle.plan.specs.Stored.{seen}
 use Rattle.plan.proofs.Soundness.{sound_as, fork_sound}
 use Rattle.plan.proofs.stored.Plan.fork.Goals as goal
 
-pub invariant-of-self : goal.invariant-of-self
-invariant-of-self c =
-    let old = c.args.self.now in (
-      search rules,
-      (
-        search rules,
-        (
-          ∥∥₁_map old.sound
-              (λ s. sound_as _ _ (search rules) refl c.add-regions.ensures.items (fork_sound (seen old) s c.args.region c.args.branches (omega arith))),
-          tt,
-        ),
-      ),
-    )
+pub invariant_of-self-clause-sound : goal.invariant_of-self-clause-sound
+invariant_of-self-clause-sound c =
+    let old = c.args.self.now in
+    ∥∥₁_map old.sound
+    (λ s. sound_as _ _ (search rules) refl c.add_regions.ensures.items (fork_sound (seen old) s c.args.region c.args.branches (omega arith)))

@@ -5,13 +5,13 @@ use Rattle.plan.specs.Stored.{seen}
 use Rattle.plan.proofs.Opened.{opened}
 use Rattle.plan.proofs.Marking.{first_reached, firsts_step, firsts_same, grown_same}
 use Rattle.plan.proofs.stored.Plan.mark_firsts.Goals as goal
-use Rattle.plan.proofs.stored.Plan.mark_firsts.Goals.{in-Some, in-default}
+use Rattle.plan.proofs.stored.Plan.mark_firsts.Goals.{in-Some, in_default}
 
-pub bounds-marks-first-in : goal.bounds-marks-first-in
-bounds-marks-first-in c =
+pub bounds-marks-first_in : goal.bounds-marks-first_in
+bounds-marks-first_in c =
     let p = seen c.args.self.now in
     let i = c.loop-named.named-index in
-    let at = ap (λ (es : List (Option Ends)). get_or es i None) (sym c.as-slice-named-items.ensures.value) ∙ c.in-Some.is in
+    let at = ap (λ (es : List (Option Ends)). get_or es i None) (sym c.as_slice-named-items.ensures.value) ∙ c.in-Some.is in
     let there = first_reached p (opened p c.args.self.now.sound) c.args.direction i c.in-Some.ends at in
     omega (arith, there.0, c.first_in.ensures)
 
@@ -28,18 +28,18 @@ loop-named-preserved c =
     let l = c.loop-named in
     let i = l.named-index in
     let start = c.args.marks.now in
-    let seen_at = ap (λ (es : List (Option Ends)). get_or es i None) (sym c.as-slice-named-items.ensures.value) in
+    let seen_at = ap (λ (es : List (Option Ends)). get_or es i None) (sym c.as_slice-named-items.ensures.value) in
     let P : List Bool → Type 0 = λ marks. Grown p d start marks × FirstsTo p d marks (i + 1) in
     elim c.match-named.branch [
       | in-Some w ↦
           let at = seen_at ∙ w.in-Some.is in
           subst P (sym w.marks-is) (firsts_step p s d start l.marks i w.first_in.result w.in-Some.ends at w.first_in.ensures
           (omega (arith, (first_reached p s d i w.in-Some.ends at).0, w.first_in.ensures)) l.invariant)
-      | in-default w ↦ subst P (sym w.marks-is) (l.invariant.0, firsts_same p s d l.marks i (seen_at ∙ w.in-default.is) l.invariant.1)
+      | in_default w ↦ subst P (sym w.marks-is) (l.invariant.0, firsts_same p s d l.marks i (seen_at ∙ w.in_default.is) l.invariant.1)
     ]
 
 pub returns : goal.returns
 returns c = record {
   grown = c.loop-named.invariant.0;
-  firsts = λ r e h. c.loop-named.invariant.1 r e (omega (arith, h, c.loop-named-test.false, ap length c.as-slice-named-items.ensures.value));
+  firsts = λ r e h. c.loop-named.invariant.1 r e (omega (arith, h, c.loop-named-test.false, ap length c.as_slice-named-items.ensures.value));
 }

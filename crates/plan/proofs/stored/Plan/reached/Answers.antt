@@ -6,7 +6,7 @@ use Rattle.plan.proofs.stored.Plan.reached.Goals as goal
 
 pub loop-direction-init : goal.loop-direction-init
 loop-direction-init c =
-    let first = c.mark-firsts.ensures in
+    let first = c.mark_firsts.ensures in
     (first.grown.long, first.grown.right (none_right (seen c.args.self.now) c.args.direction 256), first.firsts)
 
 pub returns : goal.returns

@@ -13,7 +13,7 @@ follow-requires c =
     let p = seen c.args.self.now in
     let d = c.args.direction in
     let i = c.loop-arc.arc-index in
-    let slice = c.as-slice-arc-items.ensures.value in
+    let slice = c.as_slice-arc-items.ensures.value in
     let is : c.turned.result ≡ turned d (arc_at p i) = c.turned.ensures ∙ ap (λ (arcs : List Arc). turned d (get_or arcs i (record { from = 0; to = 0 }))) slice in
     let there = ends_there p (opened p c.args.self.now.sound) d i c.turned.result (omega (arith, c.loop-arc-test.true, ap length slice)) is in
     (omega (arith, there.0), omega (arith, there.1))
@@ -30,7 +30,7 @@ loop-arc-preserved c =
     let i = l.arc-index in
     let a = c.turned.result in
     let new = c.follow.new.marks in
-    let slice = c.as-slice-arc-items.ensures.value in
+    let slice = c.as_slice-arc-items.ensures.value in
     let is : a ≡ turned d (arc_at p i) = c.turned.ensures ∙ ap (λ (arcs : List Arc). turned d (get_or arcs i (record { from = 0; to = 0 }))) slice in
     let within : i < length p.arcs = omega (arith, c.loop-arc-test.true, ap length slice) in
     let there = ends_there p s d i a within is in
@@ -47,5 +47,5 @@ returns c =
     record {
       grown = l.invariant.grown;
       told = round_all p (opened p c.args.self.now.sound) c.args.direction l.changed c.args.marks.now l.marks _ _
-          (omega (arith, c.loop-arc-test.false, ap length c.as-slice-arc-items.ensures.value)) l.invariant;
+          (omega (arith, c.loop-arc-test.false, ap length c.as_slice-arc-items.ensures.value)) l.invariant;
     }
