@@ -6,7 +6,7 @@ use Rattle.tenths.proofs.write.Goals as goal
 pub returns : goal.returns
 returns c =
     let fits = c.ranges.number in
-    let put = c.put-number-start in
+    let put = c.put_number-start in
     let is = simp to_z-of_z at put.ensures.1 in
     let whole = end_of_twelve put.new.text _ put.result put.array_long is in
-    (omega arith, whole.0, ap₂ (λ (xs : List ℕ) (k : ℕ). xs ++ drop k c.args.out.now) (c.copy-from-slice.ensures.after ∙ whole.1) (omega arith))
+    (omega arith, whole.0, ap₂ (λ (xs : List ℕ) (k : ℕ). xs ++ drop k c.args.out.now) (c.copy_from_slice.ensures.after ∙ whole.1) (omega arith))

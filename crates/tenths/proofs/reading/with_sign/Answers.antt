@@ -18,12 +18,12 @@ pub returns : goal.returns
 returns c =
     let size = c.args.size in
     let text = λ (b : Bool). minus_first b (size_text size) in
-    let answer = c.ok-or.ensures.value ∙ ap (λ (o : Option ℤ). ok_or o NotTenths) c.ok.ensures.value in
+    let answer = c.ok_or.ensures.value ∙ ap (λ (o : Option ℤ). ok_or o NotTenths) c.ok.ensures.value in
     elim c.if-negative-2.branch [
       | then-negative-2 w ↦
           let some : size ≡ 0 → ⊥ = λ none. ⊎_elim (λ below. omega (arith, below.1)) (λ above. both_ways _ above w.if-negative-2.true) c.else-negative.either in
           let below = minus_size size some (omega arith) in
-          reads_if_fits _ (neg_ℤ (pos size)) _ c.try-from.result _ below.1 (ap text w.if-negative-2.true ∙ below.0) (omega (arith, ints)) c.try-from.ensures answer
+          reads_if_fits _ (neg_ℤ (pos size)) _ c.try_from.result _ below.1 (ap text w.if-negative-2.true ∙ below.0) (omega (arith, ints)) c.try_from.ensures answer
       | else-negative-2 w ↦
-          reads_if_fits _ (pos size) _ c.try-from.result _ (omega arith) (ap text w.if-negative-2.false) (omega (arith, ints)) c.try-from.ensures answer
+          reads_if_fits _ (pos size) _ c.try_from.result _ (omega arith) (ap text w.if-negative-2.false) (omega (arith, ints)) c.try_from.ensures answer
     ]

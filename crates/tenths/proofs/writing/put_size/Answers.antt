@@ -6,5 +6,5 @@ pub returns : goal.returns
 returns c = (
   omega arith,
   omega arith,
-  c.put-whole.ensures.2 ∙ ap (λ (xs : List ℕ). decimal (c.args.size / 10) ++ xs) (put_last_two c.args.text.now _ _ c.told-text),
+  c.put_whole.ensures.2 ∙ ap (λ (xs : List ℕ). decimal (c.args.size / 10) ++ xs) (put_last_two c.args.text.now _ _ c.told-text),
 )
