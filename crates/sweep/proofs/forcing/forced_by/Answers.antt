@@ -8,18 +8,18 @@ use Rattle.sweep.proofs.Branches.{found, within}
 use Rattle.sweep.proofs.Meets.{met_slots}
 use Rattle.sweep.proofs.forcing.forced_by.Goals as goal
 
-pub overflow-add-first : goal.overflow-add-first
-overflow-add-first g c =
+pub overflow_add-first : goal.overflow_add-first
+overflow_add-first g c =
     let h = within c.args.plan.now c.args.node _ _ _ (length c.args.forces.now) c.requires.0 (omega (arith, c.requires.1)) (found c.args.plan.now _ c.args.node _ c.nodes.ensures c.in-Fork.is) in
     omega (arith, h)
 
-pub offset-bounds-forces-first : goal.offset-bounds-forces-first
-offset-bounds-forces-first g c =
+pub offset_bounds-forces-first : goal.offset_bounds-forces-first
+offset_bounds-forces-first g c =
     let h = within c.args.plan.now c.args.node _ _ _ (length c.args.forces.now) c.requires.0 (omega (arith, c.requires.1)) (found c.args.plan.now _ c.args.node _ c.nodes.ensures c.in-Fork.is) in
     omega (arith, h)
 
-pub slice-bounds-meet-all-end : goal.slice-bounds-meet-all-end
-slice-bounds-meet-all-end g c =
+pub slice_bounds-meet_all-end : goal.slice_bounds-meet_all-end
+slice_bounds-meet_all-end g c =
     let h = within c.args.plan.now c.args.node _ _ _ (length c.args.forces.now) c.requires.0 (omega (arith, c.requires.1)) (found c.args.plan.now _ c.args.node _ c.nodes.ensures c.in-Fork.is) in
     search rules
 
@@ -33,5 +33,5 @@ returns-in-Fork g c =
     let is = found c.args.plan.now _ c.args.node _ c.nodes.ensures c.in-Fork.is in
     let h = within c.args.plan.now c.args.node _ _ _ (length forces) c.requires.0 (omega (arith, c.requires.1)) is in
     let many : first + count - first ≡ count = omega arith in
-    c.meet-all.ensures ∙ ap (λ (k : ℕ). met_of a (take k (drop first forces))) many ∙ met_slots a forces first count h
+    c.meet_all.ensures ∙ ap (λ (k : ℕ). met_of a (take k (drop first forces))) many ∙ met_slots a forces first count h
     ∙ sym (ap (node_forces a (steps_of a p) (forced_slot a forces) c.args.node) is)

@@ -10,5 +10,5 @@ loop-region-preserved g c =
     let l = c.loop-region in (
       length-set l.forces _ _ ∙ l.invariant.0,
       forced_more (g.K.Kind.algebra c.args.kind.now) p (opened p c.args.plan.now.sound) l.forces l.region _ _
-          (omega (arith, c.loop-region-test.true)) (omega (arith, c.loop-region-test.true, l.auto.region, l.invariant.0, c.requires)) c.region-forces.ensures l.invariant.1,
+          (omega (arith, c.loop-region-test.true)) (omega (arith, c.loop-region-test.true, l.auto.region, l.invariant.0, c.requires)) c.region_forces.ensures l.invariant.1,
     )

@@ -27,7 +27,7 @@ loop-n-preserved-then-region g c =
     let slice = c.nodes-nodes.ensures in
     let lies : c.region.result ≡ region_of (node_at p (n - 1)) = c.region.ensures ∙ ap (λ (ns : List Node). region_of (get_or ns (n - 1) (node.Step 0 Idle))) slice in
     let back : n ≡ n - 1 + 1 = omega arith in
-    c.meet-all.ensures ∙ ap₂ a.meet c.forced-by.ensures (c.loop-n.invariant ∙ ap (λ (k : ℕ). all_force a (steps_of a p) f r k (drop k p.nodes)) back)
+    c.meet-all.ensures ∙ ap₂ a.meet c.forced_by.ensures (c.loop-n.invariant ∙ ap (λ (k : ℕ). all_force a (steps_of a p) f r k (drop k p.nodes)) back)
     ∙ sym (force_in a (steps_of a p) f r p.nodes (n - 1) (omega (arith, c.loop-n-test.true, c.loop-n.auto.n, ap length slice)) (sym lies ∙ omega (arith, c.if-region.true)))
 
 pub loop-n-preserved : goal.loop-n-preserved

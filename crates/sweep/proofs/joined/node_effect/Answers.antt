@@ -7,18 +7,18 @@ use Rattle.sweep.proofs.Branches.{found, within}
 use Rattle.sweep.proofs.Slots.{joint_slots}
 use Rattle.sweep.proofs.joined.node_effect.Goals as goal
 
-pub overflow-add-first : goal.overflow-add-first
-overflow-add-first g c =
+pub overflow_add-first : goal.overflow_add-first
+overflow_add-first g c =
     let h = within c.args.plan.now c.args.node _ _ _ (length c.args.regions.now) c.requires.0 (omega (arith, c.requires.1)) (found c.args.plan.now _ c.args.node _ c.nodes.ensures c.in-Fork.is) in
     omega (arith, h)
 
-pub offset-bounds-regions-first : goal.offset-bounds-regions-first
-offset-bounds-regions-first g c =
+pub offset_bounds-regions-first : goal.offset_bounds-regions-first
+offset_bounds-regions-first g c =
     let h = within c.args.plan.now c.args.node _ _ _ (length c.args.regions.now) c.requires.0 (omega (arith, c.requires.1)) (found c.args.plan.now _ c.args.node _ c.nodes.ensures c.in-Fork.is) in
     omega (arith, h)
 
-pub slice-bounds-joint-end : goal.slice-bounds-joint-end
-slice-bounds-joint-end g c =
+pub slice_bounds-joint-end : goal.slice_bounds-joint-end
+slice_bounds-joint-end g c =
     let h = within c.args.plan.now c.args.node _ _ _ (length c.args.regions.now) c.requires.0 (omega (arith, c.requires.1)) (found c.args.plan.now _ c.args.node _ c.nodes.ensures c.in-Fork.is) in
     search rules
 

@@ -18,7 +18,7 @@ lower-requires g c =
     let is : c.turned.result ≡ turned d (arc_at p i) = c.turned.ensures ∙ ap (λ (arcs : List Arc). turned d (get_or arcs i (record { from = 0; to = 0 }))) slice in
     let there = ends_there p (opened p c.args.plan.now.sound) d i c.turned.result (omega (arith, c.loop-arc-test.true, ap length slice)) is in
     let many = c.loop-arc.invariant.lowering.long ∙ c.requires.0 in
-    ((omega (arith, there.0, many), omega (arith, there.1, many)), (many, c.requires.1))
+    record { from_in_bounds = (omega (arith, there.0, many), omega (arith, there.1, many)); effects_len = (many, c.requires.1) }
 
 pub loop-arc-init : goal.loop-arc-init
 loop-arc-init g c = turn_none (g.K.Kind.algebra c.args.kind.now) (seen c.args.plan.now) c.args.regions.now c.args.direction c.args.region c.args.effects.now

@@ -11,8 +11,8 @@ loop-i-init g c =
     let p = seen c.args.plan.now in
     entered_none (g.K.Kind.algebra c.args.kind.now) p (opened p c.args.plan.now.sound) c.requires.whole c.args.forces.now c.args.first c.args.count c.args.outer c.args.sides.now
 
-pub offset-bounds-sides-node : goal.offset-bounds-sides-node
-offset-bounds-sides-node g c =
+pub offset_bounds-sides-node : goal.offset_bounds-sides-node
+offset_bounds-sides-node g c =
     let p = seen c.args.plan.now in
     let h : c.home-node.result < length c.loop-i.sides =
     omega (arith, (home_lies p (opened p c.args.plan.now.sound) c.requires.whole (c.args.first + c.loop-i.i) (omega (arith, c.loop-i-test.true, c.requires.sizes.0))).0, c.home-node.ensures, c.loop-i.invariant.long, c.requires.sizes.2) in
@@ -35,7 +35,7 @@ loop-i-preserved g c =
     subst (λ (n : ℕ). EnteredTo a p forces first count c.args.outer c.args.sides.now (set l.sides n c.meet.result) (l.i + 1)) (sym c.home-node.ensures)
     (entered_more a p (opened p c.args.plan.now.sound) c.requires.whole forces first count c.args.outer c.args.sides.now l.sides l.i c.meet.result
     (omega (arith, c.loop-i-test.true, c.requires.sizes.0)) (l.invariant.long ∙ c.requires.sizes.2)
-    (c.meet.ensures ∙ ap (a.meet c.args.outer) (c.meet-others.ensures ∙ ap (λ (k : ℕ). met_but a (take k (drop first forces)) l.i) many)) l.invariant)
+    (c.meet.ensures ∙ ap (a.meet c.args.outer) (c.meet_others.ensures ∙ ap (λ (k : ℕ). met_but a (take k (drop first forces)) l.i) many)) l.invariant)
 
 pub returns : goal.returns
 returns g c =

@@ -15,7 +15,7 @@ use Rattle.sweep.proofs.Branches.{found}
 use Rattle.sweep.proofs.Homes.{home_lies}
 use Rattle.sweep.proofs.Sides.{sides_none, sides_step, sides_fork}
 use Rattle.sweep.proofs.siding.fill_sides.Goals as goal
-use Rattle.sweep.proofs.siding.fill_sides.Goals.{in-Fork, in-default}
+use Rattle.sweep.proofs.siding.fill_sides.Goals.{in-Fork, in_default}
 
 -- the slot of a region's first node is there
 slot_there : (plan : Plan) → Whole (seen plan) → (q n slots : ℕ) → q < length (seen plan).ends → n ≡ home (seen plan) q → slots ≡ length (seen plan).nodes → n < slots
@@ -31,8 +31,8 @@ region_of_fork plan n r b k h is = omega (arith, region_there (seen plan) (opene
 pub home-outermost-requires : goal.home-outermost-requires
 home-outermost-requires g c = some_region c.args.plan.now
 
-pub offset-bounds-sides-outermost : goal.offset-bounds-sides-outermost
-offset-bounds-sides-outermost g c =
+pub offset_bounds-sides-outermost : goal.offset_bounds-sides-outermost
+offset_bounds-sides-outermost g c =
     let h : c.home-outermost.result < length c.args.sides.now = slot_there c.args.plan.now c.requires.whole 0 _ _ (some_region c.args.plan.now) c.home-outermost.ensures c.requires.sizes.1 in
     search rules
 
@@ -52,8 +52,8 @@ home-requires g c =
     let plan = c.args.plan.now in
     region_of_fork plan c.loop-node.node-index _ _ _ (omega (arith, c.loop-node-test.true, ap length c.nodes-node-items.ensures)) (found plan _ _ _ c.nodes-node-items.ensures c.in-Fork.is)
 
-pub offset-bounds-sides-home : goal.offset-bounds-sides-home
-offset-bounds-sides-home g c =
+pub offset_bounds-sides-home : goal.offset_bounds-sides-home
+offset_bounds-sides-home g c =
     let plan = c.args.plan.now in
     let there = region_of_fork plan c.loop-node.node-index _ _ _ (omega (arith, c.loop-node-test.true, ap length c.nodes-node-items.ensures)) (found plan _ _ _ c.nodes-node-items.ensures c.in-Fork.is) in
     let h : c.home.result < length c.loop-node.sides = slot_there plan c.requires.whole _ _ _ there c.home.ensures c.loop-node.invariant.long in
@@ -95,9 +95,9 @@ loop-node-preserved g c =
           subst P (sym w.sides-is)
           (sides_fork a p s c.requires.whole forces l.sides _ n _ _ _ w.index-sides-home.result there is c.requires.sizes.0
           (read ∙ ap (value_slot a l.sides) w.home.ensures ∙ ap (λ (x : Node). value_slot a l.sides (home p (region_of x))) (sym is)) w.enter.ensures l.invariant)
-      | in-default w ↦
+      | in_default w ↦
           subst P (sym w.sides-is)
-          (sides_step a p s c.requires.whole forces l.sides n (λ r b k is. w.in-default.not-Fork r b k (ap (λ (ns : List Node). get_or ns n (node.Step 0 Idle)) slice ∙ is)) l.invariant)
+          (sides_step a p s c.requires.whole forces l.sides n (λ r b k is. w.in_default.not-Fork r b k (ap (λ (ns : List Node). get_or ns n (node.Step 0 Idle)) slice ∙ is)) l.invariant)
     ]
 
 pub returns : goal.returns

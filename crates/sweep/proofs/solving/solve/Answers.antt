@@ -10,8 +10,8 @@ neither : (o : Option Ends) → (o ≡ None → ⊥) → ((e : Ends) → o ≡ S
 neither None none some = none refl
 neither (Some e) none some = some e refl
 
-pub solve-region-requires : goal.solve-region-requires
-solve-region-requires g c = record {
+pub solve_region-requires : goal.solve_region-requires
+solve_region-requires g c = record {
   sizes = (c.loop-region.invariant.0, c.loop-region.invariant.1, omega (arith, c.loop-region-test.true, c.loop-region.auto.region, c.loop-region.invariant.1, c.requires.sizes.1));
   ends = ap (λ (es : List (Option Ends)). get_or es (c.loop-region.region - 1) None) (sym c.regions.ensures) ∙ c.in-Some.is;
 }
@@ -24,17 +24,17 @@ loop-region-preserved g c =
     let i = c.loop-region.region in
     let is = ap (λ (es : List (Option Ends)). get_or es (i - 1) None) (sym c.regions.ensures) in
     absurd (neither _ (c.requires.whole.ended (i - 1) (omega (arith, c.loop-region-test.true, c.loop-region.auto.region, c.requires.sizes.1)))
-    (λ e at. c.in-default.not-Some e (sym is ∙ at)))
+    (λ e at. c.in_default.not-Some e (sym is ∙ at)))
 
 pub loop-region-preserved-in-Some : goal.loop-region-preserved-in-Some
 loop-region-preserved-in-Some g c =
     let p = seen c.args.plan.now in
     let l = c.loop-region in
-    let done = c.solve-region.ensures in (
+    let done = c.solve_region.ensures in (
       done.long.0 ∙ l.invariant.0,
       done.long.1 ∙ l.invariant.1,
       solved_more (g.K.Kind.algebra c.args.kind.now) p (opened p c.args.plan.now.sound) c.args.direction l.region (l.region - 1)
-          l.effects c.solve-region.new.effects l.regions c.solve-region.new.regions (omega (arith, c.loop-region-test.true))
+          l.effects c.solve_region.new.effects l.regions c.solve_region.new.regions (omega (arith, c.loop-region-test.true))
           done.solved done.nodes done.regions l.invariant.2,
     )
 

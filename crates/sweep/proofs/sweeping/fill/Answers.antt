@@ -21,11 +21,11 @@ returns g c =
     let nodes = slot a c.solve.new.effects in
     let regions = slot a c.solve.new.regions in
     let solved = c.solve.ensures.solved in
-    let sides = c.fill-sides.new.sides in
+    let sides = c.fill_sides.new.sides in
     let forces = c.gather.new.forces in
-    let valued = all_valued a p s c.args.start c.solve.new.effects sides forces c.fill-values.new.values c.gather.ensures c.fill-sides.ensures c.fill-values.ensures in
+    let valued = all_valued a p s c.args.start c.solve.new.effects sides forces c.fill_values.new.values c.gather.ensures c.fill_sides.ensures c.fill_values.ensures in
     record {
-      values = values_exact laws p d s w steps nodes regions solved c.args.start (forced_slot a forces) (λ q. value_slot a sides (home p q)) (value_slot a c.fill-values.new.values) valued;
+      values = values_exact laws p d s w steps nodes regions solved c.args.start (forced_slot a forces) (λ q. value_slot a sides (home p q)) (value_slot a c.fill_values.new.values) valued;
       nodes = nodes_exact laws p d s w steps nodes regions solved;
       regions = regions_exact laws p d s w steps nodes regions solved;
     }

@@ -24,7 +24,7 @@ returns g c =
     let effects-long : length c.fill.new.effects ≡ length p.nodes = c.fill.auto.effects ∙ length-take-le (length c.nodes-nodes.result.now - 0) c.args.effects.now (omega (arith, nodes, effects-room)) ∙ omega (arith, nodes) in
     let regions-long : length c.fill.new.regions ≡ length p.ends = c.fill.auto.regions ∙ length-take-le (length c.regions-areas.result.now - 0) c.args.regions.now (omega (arith, areas, regions-room)) ∙ omega (arith, areas) in
     record {
-      whole = c.in-ok-whole.ensures;
+      whole = c.in_ok-whole.ensures;
       room = (values-room, effects-room, regions-room);
       values_meet = λ n h.
           subst (λ (v : _). IsMeet a (Run p d n) (λ w. run a steps w c.args.start) v) (sym (front_at c.fill.new.values c.args.values.now _ _ nodes values-long values-room n a.top h))

@@ -10,8 +10,8 @@ use Rattle.sweep.proofs.Values.{valued_more}
 use Rattle.sweep.proofs.valuing.fill_values.Goals as goal
 use Rattle.sweep.proofs.valuing.fill_values.Goals.{then-region-eq0, else-region-eq0}
 
-pub offset-bounds-values-home : goal.offset-bounds-values-home
-offset-bounds-values-home g c =
+pub offset_bounds-values-home : goal.offset_bounds-values-home
+offset_bounds-values-home g c =
     let p = seen c.args.plan.now in
     let h : c.home.result < length c.loop-region.values =
     omega (arith, (home_lies p (opened p c.args.plan.now.sound) c.requires.whole c.loop-region.region (omega (arith, c.loop-region-test.true, ap length c.regions-region-end.ensures))).0, c.home.ensures, c.loop-region.invariant.long) in
@@ -42,9 +42,9 @@ loop-region-preserved g c =
     let inner : (f : ℕ) → Owns p f r → c.if-region-eq0.base ≡ value_slot a l.values f = elim c.if-region-eq0.branch [
       | then-region-eq0 w ↦ λ f o. absurd (omega (arith, owned_above p s f r o, w.if-region-eq0.true))
       | else-region-eq0 w ↦ λ f o.
-          let found = w.fork-of.ensures in
-          w.base-is ∙ get_or_read l.values w.fork-of.result _ (omega (arith, found.0, l.invariant.long)) w.index-values-fork-of.is a.top
-          ∙ ap (value_slot a l.values) (owner_unique p s w.fork-of.result f r (owned_branch p w.fork-of.result r found.0 found.1) o)
+          let found = w.fork_of.ensures in
+          w.base-is ∙ get_or_read l.values w.fork_of.result _ (omega (arith, found.0, l.invariant.long)) w.index-values-fork_of.is a.top
+          ∙ ap (value_slot a l.values) (owner_unique p s w.fork_of.result f r (owned_branch p w.fork_of.result r found.0 found.1) o)
     ] in
-    valued_more a p s c.args.start c.args.effects.now sides l.values c.fill-region.new.values r c.if-region-eq0.base c.index-values-home.result
-    outer inner side-is c.fill-region.ensures l.invariant
+    valued_more a p s c.args.start c.args.effects.now sides l.values c.fill_region.new.values r c.if-region-eq0.base c.index-values-home.result
+    outer inner side-is c.fill_region.ensures l.invariant

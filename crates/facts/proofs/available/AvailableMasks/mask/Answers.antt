@@ -25,8 +25,8 @@ loop-number-preserved c =
     let i = l.number in
     let es = listed c.args.self.now.expressions in
     let s = c.args.statement in
-    let disturbs = tested_at (disturbed s) es _ i c.as-slice-expression-items.ensures c.loop-number-test.true in
-    let computes = tested_at (makes s) es _ i c.as-slice-expression-items.ensures c.loop-number-test.true in
+    let disturbs = tested_at (disturbed s) es _ i c.as_slice-expression-items.ensures c.loop-number-test.true in
+    let computes = tested_at (makes s) es _ i c.as_slice-expression-items.ensures c.loop-number-test.true in
     elim c.if-disturbs.branch [
       | then-disturbs w ↦
           set_zeroed _ _ i l.gate _ l.forced _ (w.gate-is ∙ w.without-gate.ensures) (w.forced-is ∙ w.without-forced.ensures)
@@ -43,6 +43,6 @@ pub returns : goal.returns
 returns c =
     let l = c.loop-number in
     let es = listed c.args.self.now.expressions in
-    let past : length es ≤ l.number = omega (arith, c.loop-number-test.false, ap length c.as-slice-expression-items.ensures) in
+    let past : length es ≤ l.number = omega (arith, c.loop-number-test.false, ap length c.as_slice-expression-items.ensures) in
     set_all _ _ l.number l.gate l.forced
     (λ i h. (tested_past (disturbed c.args.statement) es i (omega arith), tested_past (makes c.args.statement) es i (omega arith))) l.invariant
