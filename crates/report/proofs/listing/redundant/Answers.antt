@@ -17,9 +17,9 @@ use Rattle.report.proofs.listing.redundant.Goals as goal
 pub returns : goal.returns
 returns c =
     let p = seen c.args.plan.now in
-    let t = c.in-ok-expressions.expressions in
-    lists_redundant p (opened p c.args.plan.now.sound) c.in-ok-whole.ensures t
-    (subst (λ (ns : List Node). Holding ns t) c.nodes.ensures c.in-ok-expressions.ensures)
-    c.in-ok-values.values (subst (λ (start : Bits). ValuesMeet (available (listed t)) p Forward start c.in-ok-values.values) c.none.ensures c.in-ok-values.ensures.meets) c.args.out.now c.mark-available.new.out
-    (subst (λ (ns : List Node). Filled 0 (λ n. flag (bit_of (listed t) (get_or c.in-ok-values.values n every) (computed_by (get_or ns n (Step 0 Idle))))) (length ns) c.args.out.now c.mark-available.new.out) c.nodes-3.ensures c.mark-available.ensures)
+    let t = c.in_ok-expressions.expressions in
+    lists_redundant p (opened p c.args.plan.now.sound) c.in_ok-whole.ensures t
+    (subst (λ (ns : List Node). Holding ns t) c.nodes.ensures c.in_ok-expressions.ensures)
+    c.in_ok-values.values (subst (λ (start : Bits). ValuesMeet (available (listed t)) p Forward start c.in_ok-values.values) c.none.ensures c.in_ok-values.ensures.meets) c.args.out.now c.mark_available.new.out
+    (subst (λ (ns : List Node). Filled 0 (λ n. flag (bit_of (listed t) (get_or c.in_ok-values.values n every) (computed_by (get_or ns n (Step 0 Idle))))) (length ns) c.args.out.now c.mark_available.new.out) c.nodes-3.ensures c.mark_available.ensures)
     (omega (arith, c.if-out-nodes.false, ap length c.nodes-2.ensures))

@@ -13,7 +13,7 @@ returns g c =
     let a = g.K.Kind.algebra c.args.kind.now in
     let events = c.args.events.now in
     let p = drawn (calls_in events) in
-    let is : seen c.perform-all.new.plan ≡ p = c.perform-all.ensures.plan ∙ ap (λ (q : Drawn). after_all q (calls_in events)) c.in-ok-plan.ensures in
+    let is : seen c.perform_all.new.plan ≡ p = c.perform_all.ensures.plan ∙ ap (λ (q : Drawn). after_all q (calls_in events)) c.in_ok-plan.ensures in
     let swept = subst (λ (q : Drawn). MatchResult c.sweep-swept.result
     (λ _. Swept a q c.args.direction c.args.start c.args.values.now c.sweep-swept.new.values c.args.effects.now c.sweep-swept.new.effects c.args.regions.now c.sweep-swept.new.regions)
     (λ e. SweepRefused q (length c.args.values.now) (length c.args.effects.now) (length c.args.regions.now) e
@@ -24,7 +24,7 @@ returns g c =
     record {
       promise = promised a p c.args.direction c.args.start c.args.values.now c.sweep-swept.new.values c.args.effects.now c.sweep-swept.new.effects c.args.regions.now c.sweep-swept.new.regions
           c.sweep-swept.result c.redundant-listed.result c.args.list.now c.redundant-listed.new.out _ _ swept listed;
-      plan = (is, c.perform-all.ensures.conditions ∙ ap (λ k. kept_after k events) c.new-conditions.ensures);
+      plan = (is, c.perform_all.ensures.conditions ∙ ap (λ k. kept_after k events) c.new-conditions.ensures);
       swept = swept;
       listed = listed;
       unmade = tt;

@@ -5,8 +5,8 @@ use Rattle.report.proofs.Lines.{count_le, count_with}
 use Rattle.report.proofs.text.count.Goals as goal
 use Rattle.report.proofs.text.count.Goals.{then-byte-eq1, else-byte-eq1}
 
-pub overflow-add-found : goal.overflow-add-found
-overflow-add-found c = omega (arith, c.loop-byte.invariant, count_le (listed_in c.args.bytes.now) c.loop-byte.byte-index)
+pub overflow_add-found : goal.overflow_add-found
+overflow_add-found c = omega (arith, c.loop-byte.invariant, count_le (listed_in c.args.bytes.now) c.loop-byte.byte-index)
 
 pub loop-byte-preserved : goal.loop-byte-preserved
 loop-byte-preserved c =

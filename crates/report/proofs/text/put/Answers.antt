@@ -3,4 +3,4 @@ use Rattle.report.proofs.Putting.{put_part}
 use Rattle.report.proofs.text.put.Goals as goal
 
 pub returns : goal.returns
-returns c = put_part c.args.out.now c.args.at _ c.args.text.now c.copy-from-slice.new.self (omega arith) c.copy-from-slice.ensures.after c.requires
+returns c = put_part c.args.out.now c.args.at _ c.args.text.now c.copy_from_slice.new.self (omega arith) c.copy_from_slice.ensures.after c.requires

@@ -13,8 +13,8 @@ totals bytes marks r d along is-r is-d = ap₂ (total_line (length bytes)) is-r 
 at_start : (f : Findings) (n total : ℕ) → length (report_text f n) ≤ total → 0 + length (lines_to f n ++ total_line n (count_to f.redundant n) (count_to f.dead n)) ≤ total
 at_start f n total h = subst (λ (k : ℕ). k ≤ total) (sym (zero-add (length (report_text f n)))) h
 
-pub put-nodes-lines-requires : goal.put-nodes-lines-requires
-put-nodes-lines-requires c =
+pub put_nodes-lines-requires : goal.put_nodes-lines-requires
+put_nodes-lines-requires c =
     let f = findings_in c.args.redundant.now c.args.dead.now c.args.sent.now in
     let n = length c.args.redundant.now in
     record {
@@ -22,15 +22,15 @@ put-nodes-lines-requires c =
       room = subst (λ (k : ℕ). k ≤ length c.args.out.now) (zero-add (length (lines_to f n))) (room_first (length c.args.out.now) 0 (lines_to f n) _ (at_start f n _ c.requires.room));
     }
 
-pub put-totals-requires : goal.put-totals-requires
-put-totals-requires c =
+pub put_totals-requires : goal.put_totals-requires
+put_totals-requires c =
     let f = findings_in c.args.redundant.now c.args.dead.now c.args.sent.now in
     let n = length c.args.redundant.now in
-    subst (λ (t : List ℕ). c.put-nodes-lines.result + length t ≤ length c.put-nodes-lines.new.out)
+    subst (λ (t : List ℕ). c.put_nodes-lines.result + length t ≤ length c.put_nodes-lines.new.out)
     (sym (totals c.args.redundant.now c.args.dead.now c.count.result c.count-2.result c.requires.along.0 c.count.ensures c.count-2.ensures))
-    (room_then (total_line n (count_to f.redundant n) (count_to f.dead n)) c.put-nodes-lines.ensures (at_start f n _ c.requires.room))
+    (room_then (total_line n (count_to f.redundant n) (count_to f.dead n)) c.put_nodes-lines.ensures (at_start f n _ c.requires.room))
 
 pub returns : goal.returns
 returns c =
-    put_then c.put-nodes-lines.ensures
-    (put_as (totals c.args.redundant.now c.args.dead.now c.count.result c.count-2.result c.requires.along.0 c.count.ensures c.count-2.ensures) c.put-totals.ensures)
+    put_then c.put_nodes-lines.ensures
+    (put_as (totals c.args.redundant.now c.args.dead.now c.count.result c.count-2.result c.requires.along.0 c.count.ensures c.count-2.ensures) c.put_totals.ensures)

@@ -11,29 +11,29 @@ parted : (at n node : ℕ) (sent : Option ℤ) (number : ℤ) → sent ≡ Optio
     → at + length (((decimal node ++ codes " sends ") ++ text_of number) ++ line_end) ≤ n
 parted at n node sent number is room = subst (λ (t : List ℕ). at + length t ≤ n) (ap (send_line node) is ∙ send_parts node number) room
 
-pub put-words-words-requires : goal.put-words-words-requires
-put-words-words-requires c =
+pub put_words-words-requires : goal.put_words-words-requires
+put_words-words-requires c =
     let number = c.in-Some.number in
     let words = decimal c.args.node ++ codes " sends " in
     room_first _ c.args.at words (text_of number) (room_first _ c.args.at (words ++ text_of number) line_end (parted c.args.at _ c.args.node _ number c.in-Some.is c.requires))
 
-pub put-tenths-label-requires : goal.put-tenths-label-requires
-put-tenths-label-requires c =
+pub put_tenths-label-requires : goal.put_tenths-label-requires
+put_tenths-label-requires c =
     let number = c.in-Some.number in
     let fits : SFits w32 number = search rules in
     let words = decimal c.args.node ++ codes " sends " in
-    simp to_z-of_z (room_then (text_of number) c.put-words-words.ensures (room_first _ c.args.at (words ++ text_of number) line_end (parted c.args.at _ c.args.node _ number c.in-Some.is c.requires)))
+    simp to_z-of_z (room_then (text_of number) c.put_words-words.ensures (room_first _ c.args.at (words ++ text_of number) line_end (parted c.args.at _ c.args.node _ number c.in-Some.is c.requires)))
 
 pub put-requires : goal.put-requires
 put-requires c =
     let number = c.in-Some.number in
     let fits : SFits w32 number = search rules in
-    let label = simp to_z-of_z at c.put-tenths-label.ensures in
-    room_then line_end (put_then c.put-words-words.ensures label) (parted c.args.at _ c.args.node _ number c.in-Some.is c.requires)
+    let label = simp to_z-of_z at c.put_tenths-label.ensures in
+    room_then line_end (put_then c.put_words-words.ensures label) (parted c.args.at _ c.args.node _ number c.in-Some.is c.requires)
 
 pub returns : goal.returns
 returns c =
     let number = c.in-Some.number in
     let fits : SFits w32 number = search rules in
-    let label = simp to_z-of_z at c.put-tenths-label.ensures in
-    put_as (sym (ap (send_line c.args.node) c.in-Some.is ∙ send_parts c.args.node number)) (put_then (put_then c.put-words-words.ensures label) c.put.ensures)
+    let label = simp to_z-of_z at c.put_tenths-label.ensures in
+    put_as (sym (ap (send_line c.args.node) c.in-Some.is ∙ send_parts c.args.node number)) (put_then (put_then c.put_words-words.ensures label) c.put.ensures)

@@ -4,8 +4,8 @@ use Rattle.report.specs.Putting.{Put}
 use Rattle.report.proofs.Labels.{label_front, label_short}
 use Rattle.report.proofs.text.put_tenths.Goals as goal
 
-pub slice-bounds-put-end : goal.slice-bounds-put-end
-slice-bounds-put-end c =
+pub slice_bounds-put-end : goal.slice_bounds-put-end
+slice_bounds-put-end c =
     let short = label_short _ _ c.write.new.out c.in-Ok.length c.in-Ok.ensures in
     let long = c.write.auto.out in
     omega (arith, short, long)
