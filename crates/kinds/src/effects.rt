@@ -63,14 +63,15 @@ pub fn either_way<K: Kind>(
 // Two effects at once, in whatever order.
 pub fn beside<K: Kind>(
     kind: &K,
-    left: Effect<K::Gate, K::Value>,
-    right: Effect<K::Gate, K::Value>,
+    one: Effect<K::Gate, K::Value>,
+    other: Effect<K::Gate, K::Value>,
 ) -> Effect<K::Gate, K::Value>
-    ensures { result ≡ beside (K.Kind.algebra kind.now) left right }
+    ensures { result ≡ beside (K.Kind.algebra kind.now) one other }
 {
+    let forced = kind.meet(one.forced, other.forced);
     Effect {
-        gate: kind.series(left.gate, right.gate),
-        forced: kind.meet(left.forced, right.forced),
+        gate: kind.series(one.gate, other.gate),
+        forced,
     }
 }
 

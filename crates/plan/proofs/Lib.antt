@@ -5,3 +5,4 @@ pub mod Opened
 pub mod Marking
 pub mod Turning
 pub mod Forks
+pub mod Ranges

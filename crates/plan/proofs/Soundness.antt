@@ -12,7 +12,7 @@ use Rattle.plan.specs.declared.node.Arc as declared_arc
 use Rattle.refusals.specs.declared.refusal.Refusal.{Refusal}
 use Rattle.plan.specs.declared.call.Call.{Call}
 use Rattle.plan.specs.declared.call.Call.TheVariants.{Lay, Fork, Arc, Ends, Change}
-use Rattle.plan.specs.Drawn.{Drawn, blank, node_at, region_of, width, branches, regions_before, node_in_range, Lies, Joins, Sound}
+use Rattle.plan.specs.Drawn.{Drawn, blank, node_at, region_of, width, branches, regions_before, Lies, Joins, Sound}
 use Rattle.plan.specs.Calls.{accepted, is_fork, no_region, no_node, outside, has_arc, kept_if, after, after_all, drawn}
 use Rattle.plan.specs.Statements.{in_range}
 use Rattle.plan.proofs.Nodes.{branches-++, pushed, in_pushed, region_replaced, in_replaced, branches_replaced, branches_set, getD_copies, ends_more}
@@ -42,7 +42,6 @@ pub blank_sound : Sound blank
 blank_sound = record {
   counted = refl;
   placed = λ n h. absurd (omega arith);
-  ranged = λ n h. absurd (omega arith);
   forked = λ n r b k h e. absurd (omega arith);
   joined = λ k h. absurd (omega arith);
   bounded = λ r e is. absurd (no_ends e (sym (getD_copies 1 r None) ∙ is));
@@ -68,14 +67,10 @@ module _ (p : Drawn) (s : Sound p) where
   forked_pushed x new n r b k l =
       pushed (λ m y ns. (r b k : ℕ) → y ≡ node.Fork r b k → b ≡ suc (branches ns)) p.nodes x origin (λ m l r b k. s.forked m r b k l) new n l r b k
 
-  ranged_pushed : (x : Node) → node_in_range x ≡ true → (n : ℕ) → n < length (p.nodes ++ (x ∷ [])) → node_in_range (get_or (p.nodes ++ (x ∷ [])) n origin) ≡ true
-  ranged_pushed x = pushed (λ n y ns. node_in_range y ≡ true) p.nodes x origin s.ranged
-
-  pub lay_sound : (r : ℕ) (st : Statement) → r < length p.ends → in_range st ≡ true → Sound (accepted p (Lay r st))
-  lay_sound r st h range = record {
+  pub lay_sound : (r : ℕ) (st : Statement) → r < length p.ends → Sound (accepted p (Lay r st))
+  lay_sound r st h = record {
     counted = s.counted ∙ ap suc (sym (branches-++ p.nodes (node.Step r st ∷ []) ∙ add-zero _));
     placed = placed_pushed (node.Step r st) h;
-    ranged = ranged_pushed (node.Step r st) range;
     forked = forked_pushed (node.Step r st) (λ f b k e. absurd (no_fork r f b k st e));
     joined = λ k l. joins_pushed (node.Step r st) _ (s.joined k l);
     bounded = λ q e is. lies_pushed (node.Step r st) q e (s.bounded q e is);
@@ -87,7 +82,6 @@ module _ (p : Drawn) (s : Sound p) where
       record {
         counted = length-append p.ends (replicate k None) ∙ simp length-replicate (omega (arith, s.counted, branches-++ p.nodes (x ∷ [])));
         placed = placed_pushed x h;
-        ranged = ranged_pushed x refl;
         forked = forked_pushed x (λ f b j e. (let same : b ≡ length p.ends = cc in same ∙ s.counted));
         joined = λ i l. joins_pushed x _ (s.joined i l);
         bounded = λ q e is. lies_pushed x q e (s.bounded q e (sym (ends_more p.ends k q) ∙ is));
@@ -97,7 +91,6 @@ module _ (p : Drawn) (s : Sound p) where
   arc_sound m n j = record {
     counted = s.counted;
     placed = s.placed;
-    ranged = s.ranged;
     forked = s.forked;
     joined = pushed (λ k a as'. Joins p a) p.arcs (record { from = m; to = n }) (record { from = 0; to = 0 }) s.joined j;
     bounded = s.bounded;
@@ -107,7 +100,6 @@ module _ (p : Drawn) (s : Sound p) where
   ends_sound r f l h first last = record {
     counted = simp length-set s.counted;
     placed = s.placed;
-    ranged = s.ranged;
     forked = s.forked;
     joined = s.joined;
     bounded = λ q e is. go q e is (cases_eq q r);
@@ -120,11 +112,10 @@ module _ (p : Drawn) (s : Sound p) where
           subst (λ (d : declared.Ends). Lies p q d.first × Lies p q d.last) new (subst (λ (i : ℕ). Lies p i f × Lies p i l) (sym same) (first, last))
       go q e is (inr other) = s.bounded q e (sym (get_or-set_other p.ends r q _ None other) ∙ is)
 
-  pub change_sound : (n : ℕ) (st : Statement) → n < length p.nodes → is_fork (node_at p n) ≡ false → in_range st ≡ true → Sound (accepted p (Change n st))
-  change_sound n st h plain range = record {
+  pub change_sound : (n : ℕ) (st : Statement) → n < length p.nodes → is_fork (node_at p n) ≡ false → Sound (accepted p (Change n st))
+  change_sound n st h plain = record {
     counted = s.counted ∙ ap suc (sym (branches_set p.nodes n (changed p n st) origin h narrow));
     placed = λ m l. subst₂ (λ (r b : ℕ). r < suc b) (sym (region_replaced p.nodes n (changed p n st) origin refl m (within m l))) (sym (branches_replaced p.nodes n (changed p n st) origin h narrow m)) (s.placed m (within m l));
-    ranged = λ m l. fits m (within m l) (cases_eq m n);
     forked = λ m r b k l is. still m r b k (within m l) is (cases_eq m n);
     joined = λ k l. let j = s.joined k l in (
       simp length-set j.0,
@@ -139,11 +130,6 @@ module _ (p : Drawn) (s : Sound p) where
 
       within : (m : ℕ) → m < length (set p.nodes n (changed p n st)) → m < length p.nodes
       within m l = omega (arith, l, length-set p.nodes n (changed p n st))
-
-      fits : (m : ℕ) → m < length p.nodes → ((m ≡ n) ⊎ (m ≡ n → ⊥)) → node_in_range (get_or (set p.nodes n (changed p n st)) m origin) ≡ true
-      fits m l (inl same) =
-          ap (λ (i : ℕ). node_in_range (get_or (set p.nodes n (changed p n st)) i origin)) same ∙ ap node_in_range (get_or-set_same p.nodes n (changed p n st) origin h) ∙ range
-      fits m l (inr other) = ap node_in_range (get_or-set_other p.nodes n m (changed p n st) origin other) ∙ s.ranged m l
 
       still : (m r b k : ℕ) → m < length p.nodes → get_or (set p.nodes n (changed p n st)) m origin ≡ node.Fork r b k → ((m ≡ n) ⊎ (m ≡ n → ⊥)) → b ≡ suc (branches (take m (set p.nodes n (changed p n st))))
       still m r b k l is (inl same) =
@@ -160,7 +146,7 @@ pub after_sound : (p : Drawn) (c : Call) → Sound p → Sound (after p c)
 after_sound p (Lay r st) s =
     unless_refused p _ (no_region p r) _ _ s (λ there.
     unless_refused p _ (not (in_range st)) _ _ s (λ range.
-    unless_refused p _ (leb 256 (length p.nodes)) _ _ s (λ room. lay_sound p s r st (leb-false _ _ there) (not-false _ range))))
+    unless_refused p _ (leb 256 (length p.nodes)) _ _ s (λ room. lay_sound p s r st (leb-false _ _ there))))
 after_sound p (Fork r k) s =
     unless_refused p _ (no_region p r) _ _ s (λ there.
     unless_refused p _ (ltb k 2 || ltb 8 k) _ _ s (λ count.
@@ -182,7 +168,7 @@ after_sound p (Ends r f l) s =
 after_sound p (Change n st) s =
     unless_refused p _ (no_node p n) _ _ s (λ there.
     unless_refused p _ (not (in_range st)) _ _ s (λ range.
-    unless_refused p _ (is_fork (node_at p n)) _ _ s (λ step. change_sound p s n st (leb-false _ _ there) step (not-false _ range))))
+    unless_refused p _ (is_fork (node_at p n)) _ _ s (λ step. change_sound p s n st (leb-false _ _ there) step)))
 
 after_all_sound : (p : Drawn) (cs : List Call) → Sound p → Sound (after_all p cs)
 after_all_sound p [] s = s

@@ -67,11 +67,13 @@ pub record Sound (p : Drawn) : Type 0 where
   pub counted : length p.ends ≡ suc (branches p.nodes)
   -- a node lies in a region that was there before the node
   pub placed : (n : ℕ) → n < length p.nodes → region_of (node_at p n) < regions_before p n
-  -- its statement names variables and probes that there are
-  pub ranged : (n : ℕ) → n < length p.nodes → node_in_range (node_at p n) ≡ true
   -- the branches of a fork are the next regions
   pub forked : (n r b k : ℕ) → n < length p.nodes → node_at p n ≡ Fork r b k → b ≡ regions_before p n
   -- every arc joins two nodes of one region
   pub joined : (k : ℕ) → k < length p.arcs → Joins p (arc_at p k)
   -- the ends of a region lie in it
   pub bounded : (r : ℕ) (e : Ends) → ends_at p r ≡ Some e → Lies p r e.first × Lies p r e.last
+
+-- every step of the plan names variables and probes that there are
+abbrev pub Ranged : Drawn → Type 0
+Ranged p = (n : ℕ) → n < length p.nodes → node_in_range (node_at p n) ≡ true

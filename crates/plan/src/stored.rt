@@ -1,6 +1,6 @@
 // A plan as it is stored.
 ghost use Rattle.std.specs.Prelude.{◌≤◌, vec_capacity};
-ghost use Rattle.plan.specs.Drawn.{Small, Sound};
+ghost use Rattle.plan.specs.Drawn.{Ranged, Small, Sound};
 
 use crate::node::{Arc, Ends, Node};
 
@@ -21,4 +21,5 @@ pub struct Plan {
     ghost room: { (256 ≤ vec_capacity nodes) × (1024 ≤ vec_capacity arcs) × (64 ≤ vec_capacity ends) },
     ghost small: { Small (record { nodes = nodes.items; arcs = arcs.items; ends = ends.items }) },
     ghost sound: { ∥ Sound (record { nodes = nodes.items; arcs = arcs.items; ends = ends.items }) ∥₁ },
+    ghost ranged: { Ranged (record { nodes = nodes.items; arcs = arcs.items; ends = ends.items }) },
 }

@@ -7,7 +7,7 @@ use Rattle.std.proofs.lemmas.Bool.{cases_Bool}
 use Rattle.plan.specs.declared.node.Node.{Node}
 use Rattle.plan.specs.declared.node.Node.TheVariants.{Step}
 use Rattle.plan.specs.declared.statement.Statement.TheVariants.{Send}
-use Rattle.plan.specs.Drawn.{Drawn, node_at, Sound}
+use Rattle.plan.specs.Drawn.{Drawn, node_at, Ranged}
 use Rattle.plan.proofs.Nodes.{getD_copies}
 use Rattle.expressions.specs.Expressions.{computed_by}
 use Rattle.expressions.specs.Variables.{among}
@@ -28,7 +28,7 @@ none_sent p k = record {
   fits = λ n c e. absurd (clash (ap is_some (sym (getD_copies k n None) ∙ e)));
 }
 
-module _ (p : Drawn) (sound : Sound p) (kept : ℕ) (listed listed' unread unread' : List ℕ) (sent : List (Option ℤ))
+module _ (p : Drawn) (ranged : Ranged p) (kept : ℕ) (listed listed' unread unread' : List ℕ) (sent : List (Option ℤ))
     (redundant : ListsRedundant p listed listed') (dead : ListsDead p kept unread unread') (below : SentBelow p 16 sent) (k : ℕ) (all : k ≡ length p.nodes) where
   -- what the bytes of the nodes say
   abbrev pub findings : Findings
@@ -41,7 +41,7 @@ module _ (p : Drawn) (sound : Sound p) (kept : ℕ) (listed listed' unread unrea
   sends n h c = (
     λ e. let s = (below.means n h c).0 e in (s.0, s.1, s.3, s.4),
     λ s. let uses : among s.1 (used_by (node_at p n)) ≡ true = ap (λ (x : Node). among s.1 (used_by x)) s.2 ∙ or-false (eqb s.1 s.1) ∙ eq-eqb s.1 s.1 refl in
-        (below.means n h c).1 (s.0, s.1, node_uses_low (node_at p n) s.1 (sound.ranged n h) uses, s.2, s.3),
+        (below.means n h c).1 (s.0, s.1, node_uses_low (node_at p n) s.1 (ranged n h) uses, s.2, s.3),
   )
 
   pub found : Found p kept findings

@@ -8,7 +8,7 @@ use Rattle.plan.specs.declared.node.Node.TheVariants.{Step, Fork}
 use Rattle.plan.specs.declared.statement.Statement.{Statement}
 use Rattle.plan.specs.declared.statement.Statement.TheVariants.{Idle, Wait, Set, Copy, Send, Probe, Add, Sub, Min, Max}
 use Rattle.std.proofs.lemmas.Bool.{or_left}
-use Rattle.plan.specs.Drawn.{Drawn, node_at, Sound}
+use Rattle.plan.specs.Drawn.{Drawn, node_at, Ranged}
 use Rattle.plan.specs.Paths.{Whole}
 use Rattle.plan.specs.Statements.{assigns}
 use Rattle.bitset.specs.declared.bits.Bits.{Bits}
@@ -42,14 +42,14 @@ node_bit : (x : Bits) (v : ℕ) (n : Node) → among v (assigned_by n) ≡ true 
 node_bit x v (Step r s) h = step_bit x v s h
 node_bit x v (Fork r b k) h = absurd (clash h)
 
-module _ (p : Drawn) (sound : Sound p) (whole : Whole p) (kept : ℕ) (vs : List Bits) (meets : ValuesMeet dead p Backward (unkept kept) vs) (before after : List ℕ)
+module _ (p : Drawn) (ranged : Ranged p) (whole : Whole p) (kept : ℕ) (vs : List Bits) (meets : ValuesMeet dead p Backward (unkept kept) vs) (before after : List ℕ)
     (filled : Filled 0 (λ n. flag (bit_among (get_or vs n every) (assigned_by (node_at p n)))) (length p.nodes) before after) (room : length p.nodes ≤ length before) where
   listed_bit : (n : ℕ) → n < length p.nodes → listed_in after n ≡ bit_among (get_or vs n every) (assigned_by (node_at p n))
   listed_bit n l = ap (λ (b : ℕ). eqb b 1) (filled.front n l) ∙ flag_one (bit_among (get_or vs n every) (assigned_by (node_at p n)))
 
   by_variable : (n v : ℕ) → n < length p.nodes → Assigns p v n → (listed_in after n ≡ true) ↔ ((w : List ℕ) → Run p Backward n w → Unread p v kept w)
   by_variable n v l a =
-      let low : v < 16 = node_assigns_low (node_at p n) v (sound.ranged n l) a in
+      let low : v < 16 = node_assigns_low (node_at p n) v (ranged n l) a in
       let is : listed_in after n ≡ bit v (get_or vs n every).word = listed_bit n l ∙ node_bit (get_or vs n every) v (node_at p n) a in
       let m = meet_unread v low p kept (meets n l) in
       (λ q. m.0 (sym is ∙ q), λ all. is ∙ m.1 all)

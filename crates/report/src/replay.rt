@@ -1,7 +1,7 @@
 // A row of events on a new plan.
 ghost use Rattle.std.specs.Prelude.{◌≡◌, length, IfOk, MatchResult, OnErr};
 ghost use Rattle.plan.specs.Calls.{after_all, drawn};
-ghost use Rattle.sweep.specs.Swept.{Swept, Refused as SweepRefused};
+ghost use Rattle.sweep.specs.Swept.{Swept, Refused as SweepRefused, HasRoom};
 ghost use Rattle.report.specs.Listing.{ListsRedundant, Refused};
 ghost use Rattle.plan.specs.Stored.{seen};
 ghost use Rattle.report.specs.Replayed.{call_in, calls_in, kept_by, kept_after, Promised};
@@ -114,6 +114,7 @@ pub fn replay<K: Kind>(
         (λ _. Swept (K.Kind.algebra kind.now) (drawn (calls_in events.now)) direction start values.old values.new effects.old effects.new regions.old regions.new)
         (λ e. SweepRefused (drawn (calls_in events.now)) (length values.old) (length effects.old) (length regions.old) e
         × ((values.new ≡ values.old) × (effects.new ≡ effects.old) × (regions.new ≡ regions.old)))) }
+    ensures room { IfOk result (λ d. IfOk d.swept (λ _. HasRoom (drawn (calls_in events.now)) (length values.old) (length effects.old) (length regions.old))) }
     ensures listed { IfOk result (λ d. MatchResult d.listed
         (λ _. ListsRedundant (drawn (calls_in events.now)) list.old list.new)
         (λ e. Refused (drawn (calls_in events.now)) (length (drawn (calls_in events.now)).nodes) (length list.old) e × (list.new ≡ list.old))) }

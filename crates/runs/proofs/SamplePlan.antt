@@ -5,7 +5,7 @@ use Rattle.plan.specs.declared.node.Node.TheVariants.{Fork}
 use Rattle.plan.specs.declared.node.Ends.{Ends}
 use Rattle.plan.specs.declared.node.Direction.{Direction}
 use Rattle.plan.specs.declared.node.Direction.TheVariants.{Forward, Backward}
-use Rattle.plan.specs.Drawn.{node_at, arc_at, ends_at, region_of, node_in_range, Lies, Joins, regions_before, Sound}
+use Rattle.plan.specs.Drawn.{node_at, arc_at, ends_at, region_of, Lies, Joins, regions_before, Sound}
 use Rattle.plan.specs.Paths.{first_in, Leads, Path.stay, Path.go, Reached, Leaves, Whole, last_in}
 use Rattle.runs.specs.Words.{Forks}
 use Rattle.runs.specs.Scheme.{Pick}
@@ -17,13 +17,6 @@ sample_placed (suc zero) h = lit< tt
 sample_placed (suc (suc zero)) h = lit< tt
 sample_placed (suc (suc (suc zero))) h = lit< tt
 sample_placed (suc (suc (suc (suc n)))) h = absurd (omega arith)
-
-sample_ranged : (n : ℕ) → n < 4 → node_in_range (node_at sample n) ≡ true
-sample_ranged zero h = refl
-sample_ranged (suc zero) h = refl
-sample_ranged (suc (suc zero)) h = refl
-sample_ranged (suc (suc (suc zero))) h = refl
-sample_ranged (suc (suc (suc (suc n)))) h = absurd (omega arith)
 
 sample_forked : (n r b k : ℕ) → n < 4 → node_at sample n ≡ Fork r b k → b ≡ regions_before sample n
 sample_forked zero r b k h e = cc
@@ -49,7 +42,6 @@ pub sample_sound : Sound sample
 sample_sound = record {
   counted = refl;
   placed = sample_placed;
-  ranged = sample_ranged;
   forked = sample_forked;
   joined = sample_joined;
   bounded = sample_ends (λ r e. Lies sample r e.first × Lies sample r e.last)

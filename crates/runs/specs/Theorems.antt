@@ -53,4 +53,4 @@ RowsSound = (row : List Call) → Sound (drawn row)
 -- an approach is a beginning of a full word, and a beginning that ends in a step is, without it, an approach to the step
 abbrev pub Beginnings : Type 0
 Beginnings = (p : Drawn) (d : Direction) → Sound p → Whole p → (r n : ℕ) (u : List ℕ)
-    → (Approach p d r n u → Beginning p d r u) × (Beginning p d r (u ++ (n ∷ [])) → Approach p d r n u)
+    → (r < length p.ends → Approach p d r n u → Beginning p d r u) × (Beginning p d r (u ++ (n ∷ [])) → Approach p d r n u)

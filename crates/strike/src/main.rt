@@ -1,61 +1,66 @@
-// Draws a plan, and prints its report.
+// Draws a plan, and prints what happened.
 #![tactic(auto)]
 
-use facts::constant::Constant;
-use facts::fixed::Fixed;
-use kinds::effects::passing;
 use plan::call::Call;
-use plan::node::Direction;
+use plan::conditions::Conditions;
+use plan::node::Node;
+use plan::rows::draw;
 use plan::statement::Statement;
-use plan::stored::{NODES, REGIONS};
-use report::event::Event;
-use report::replay::replay;
-use report::reporting::{TEXT, report};
+use plan::stored::Plan;
 use std::io;
-use std::io::Write;
+use words::{Answered, Asked, Label};
 
-// A set threshold, two probe readings beside an idle branch, and the threshold sent; variables 0 and 1 are kept.
-const EVENTS: [Event; 13] = [
-    Event::Draw(Call::Lay(0, Statement::Set(2, -4))),
-    Event::Draw(Call::Fork(0, 2)),
-    Event::Draw(Call::Lay(0, Statement::Send(2))),
-    Event::Draw(Call::Arc(0, 1)),
-    Event::Draw(Call::Arc(1, 2)),
-    Event::Draw(Call::Ends(0, 0, 2)),
-    Event::Draw(Call::Lay(1, Statement::Probe(0, 3))),
-    Event::Draw(Call::Lay(1, Statement::Probe(1, 3))),
-    Event::Draw(Call::Arc(3, 4)),
-    Event::Draw(Call::Ends(1, 3, 4)),
-    Event::Draw(Call::Lay(2, Statement::Idle)),
-    Event::Draw(Call::Ends(2, 5, 5)),
-    Event::Keep(3),
+mod words;
+
+// A set threshold, two probe readings beside an idle branch, and the threshold sent.
+const CALLS: [Call; 12] = [
+    Call::Lay(0, Statement::Set(2, -4)),
+    Call::Fork(0, 2),
+    Call::Lay(0, Statement::Send(2)),
+    Call::Arc(0, 1),
+    Call::Arc(1, 2),
+    Call::Ends(0, 0, 2),
+    Call::Lay(1, Statement::Probe(0, 3)),
+    Call::Lay(1, Statement::Probe(1, 3)),
+    Call::Arc(3, 4),
+    Call::Ends(1, 3, 4),
+    Call::Lay(2, Statement::Idle),
+    Call::Ends(2, 5, 5),
 ];
 
-// Performs the events with the value of variable 2 swept, and prints the report of the plan that they leave.
-fn main(rt: HostRuntime) -> io::Result<()> {
-    let kind = Fixed { variable: 2 };
-    let mut values = [Constant::Unknown; NODES];
-    let mut effects = [passing(&kind); NODES];
-    let mut regions = [passing(&kind); REGIONS];
-    let mut list = [0; NODES];
-    let replayed = replay(
-        rt.alloc(),
-        &EVENTS,
-        &kind,
-        Direction::Forward,
-        Constant::Unfixed,
-        &mut values,
-        &mut effects,
-        &mut regions,
-        &mut list,
-    )?;
-    let mut text = [0; TEXT];
-    match report(&replayed.plan, replayed.conditions, &mut text) {
-        Ok(length) => rt.stdout().write_all(&text[0..length]),
+// Prints whether the plan is whole.
+fn tell_whole(rt: &HostRuntime, plan: &Plan) -> io::Result<()> {
+    match plan.whole() {
+        Ok(()) => println!(rt; "the plan is whole"),
         Err(refusal) => {
-            let number = refusal.number();
-            let place = refusal.place();
-            println!(rt; "refused {number} place {place}")
+            let answered = Answered(Err(refusal));
+            println!(rt; "the plan is not whole: {answered}")
         }
     }
+}
+
+// Prints the constants that the plan sets, as they stand on a label.
+fn tell_constants(rt: &HostRuntime, plan: &Plan) -> io::Result<()> {
+    for (n, node) in plan.nodes().iter().enumerate() {
+        if let Node::Step(_, Statement::Set(_, constant)) = node {
+            let label = Label(*constant);
+            println!(rt; "node {n} sets {label}")?;
+        }
+    }
+    Ok(())
+}
+
+fn main(rt: HostRuntime) -> io::Result<()> {
+    let drawing = draw(rt.alloc(), &CALLS)?;
+    for (call, answer) in CALLS.iter().zip(drawing.answers.iter()) {
+        let asked = Asked(*call);
+        let answered = Answered(*answer);
+        println!(rt; "{asked}: {answered}")?;
+    }
+    let mut conditions = Conditions::new();
+    conditions.keep(3);
+    let kept = conditions.kept;
+    println!(rt; "keep {kept}: done")?;
+    tell_whole(&rt, &drawing.plan)?;
+    tell_constants(&rt, &drawing.plan)
 }

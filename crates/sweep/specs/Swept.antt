@@ -33,9 +33,7 @@ pub record KeptFrom {X : Type 0} (n : ℕ) (before after : List X) : Type 0 wher
 
 -- the three buffers after a sweep that is not refused
 pub record Swept {V G : Type 0} (a : Algebra V G) (p : Drawn) (d : Direction) (start : V) (values values' : List V) (effects effects' regions regions' : List (Effect G V)) : Type 0 where
-  -- nothing refuses it
   pub whole : Whole p
-  pub room : (length p.nodes ≤ length values) × (length p.nodes ≤ length effects) × (length p.ends ≤ length regions)
   pub values_meet : ValuesMeet a p d start values'
   pub nodes_meet : NodesMeet a p d effects'
   pub regions_meet : RegionsMeet a p d regions'
@@ -47,3 +45,7 @@ pub record Swept {V G : Type 0} (a : Algebra V G) (p : Drawn) (d : Direction) (s
 abbrev pub Refused : Drawn → ℕ → ℕ → ℕ → Refusal → Type 0
 Refused p values effects regions e =
     Fault p e ⊎ ((e ≡ Short) × Whole p × ((values < length p.nodes) ⊎ ((effects < length p.nodes) ⊎ (regions < length p.ends))))
+
+-- there is a slot for every node and every region
+abbrev pub HasRoom : Drawn → ℕ → ℕ → ℕ → Type 0
+HasRoom p values effects regions = (length p.nodes ≤ values) × (length p.nodes ≤ effects) × (length p.ends ≤ regions)

@@ -1,8 +1,8 @@
 // The sweep.
-ghost use Rattle.std.specs.Prelude.{◌≡◌, length, MatchResult};
+ghost use Rattle.std.specs.Prelude.{◌≡◌, length, IfOk, MatchResult};
 ghost use Rattle.plan.specs.Paths.{Whole};
 ghost use Rattle.plan.specs.Stored.{seen};
-ghost use Rattle.sweep.specs.Swept.{ValuesMeet, NodesMeet, RegionsMeet, Swept, Refused};
+ghost use Rattle.sweep.specs.Swept.{ValuesMeet, NodesMeet, RegionsMeet, Swept, Refused, HasRoom};
 
 use crate::forcing::gather;
 use crate::siding::fill_sides;
@@ -48,10 +48,11 @@ pub fn sweep<K: Kind>(
     effects: &mut [Effect<K::Gate, K::Value>],
     regions: &mut [Effect<K::Gate, K::Value>],
 ) -> Result<(), Refusal>
-    ensures { MatchResult result
+    ensures swept { MatchResult result
         (λ _. Swept (K.Kind.algebra kind.now) (seen plan.now) direction start values.old values.new effects.old effects.new regions.old regions.new)
         (λ e. Refused (seen plan.now) (length values.old) (length effects.old) (length regions.old) e
         × ((values.new ≡ values.old) × (effects.new ≡ effects.old) × (regions.new ≡ regions.old))) }
+    ensures room { IfOk result (λ _. HasRoom (seen plan.now) (length values.old) (length effects.old) (length regions.old)) }
 {
     plan.whole()?;
     let nodes = plan.nodes().len();

@@ -16,7 +16,7 @@ use refusals::refusal::Refusal;
 use std::test::Fail;
 use sweep::sweeping::sweep;
 
-fn draw(rt: &HostRuntime, beside: Statement, last: Statement) -> Result<Plan, Fail> {
+pub(crate) fn draw(rt: &HostRuntime, beside: Statement, last: Statement) -> Result<Plan, Fail> {
     let mut plan = Plan::new(rt.alloc())?;
     plan.lay(0, Statement::Set(2, -4))?;
     plan.fork(0, 2)?;
@@ -33,20 +33,8 @@ fn draw(rt: &HostRuntime, beside: Statement, last: Statement) -> Result<Plan, Fa
     Ok(plan)
 }
 
-// One bit of each value.
-fn bits(values: [Bits; 6], place: usize) -> [bool; 6] {
-    [
-        values[0].bit(place),
-        values[1].bit(place),
-        values[2].bit(place),
-        values[3].bit(place),
-        values[4].bit(place),
-        values[5].bit(place),
-    ]
-}
-
-// Whether the probe's reading is available at each node, if it is not at the start.
-fn available(plan: &Plan, direction: Direction) -> Result<[bool; 6], Fail> {
+// Whether the plan's first expression is available before nodes 2, 3 and 4.
+fn available(plan: &Plan) -> Result<[bool; 3], Fail> {
     let kind = Bitwise(Available {
         expressions: number(plan.nodes())?,
     });
@@ -56,39 +44,26 @@ fn available(plan: &Plan, direction: Direction) -> Result<[bool; 6], Fail> {
     sweep(
         plan,
         &kind,
-        direction,
+        Direction::Forward,
         Bits::none(),
         &mut values,
         &mut effects,
         &mut regions,
     )?;
-    Ok(bits(values, 0))
+    Ok([values[2].bit(0), values[3].bit(0), values[4].bit(0)])
 }
 
-// Forward, nodes 3 and 4 read the probe. A run reaches node 5 without them, and one reaches node 3 with no reading before.
-// A wait at node 5 comes after them in some run to node 2, and after node 3 in some run to node 4.
-// Backward, node 2 reads first, so that all is available but at node 2 itself. A wait at node 5 disturbs it in some run
-// to nodes 4 and 3, and comes last in some run to node 0; none comes before nodes 1 and 5.
 #[test]
 fn a_reading_is_available_unless_the_other_branch_waits(rt: HostRuntime) -> Result<(), Fail> {
     let idle = draw(&rt, Statement::Idle, Statement::Probe(4, 3))?;
+    assert!(rt; available(&idle)? == [true, false, true]);
     let wait = draw(&rt, Statement::Wait, Statement::Probe(4, 3))?;
-    let forward = Direction::Forward;
-    assert!(rt; available(&idle, forward)? == [false, false, true, false, true, false]);
-    assert!(rt; available(&wait, forward)? == [false; 6]);
-    let backward = Direction::Backward;
-    assert!(rt; available(&idle, backward)? == [true, true, false, true, true, true]);
-    assert!(rt; available(&wait, backward)? == [false, true, false, false, false, true]);
+    assert!(rt; available(&wait)? == [false, false, false]);
     Ok(())
 }
 
-// Whether a variable is dead at each node, where `start` tells what is dead at the start.
-fn dead(
-    plan: &Plan,
-    direction: Direction,
-    start: Bits,
-    variable: usize,
-) -> Result<[bool; 6], Fail> {
+// Whether variables 0 and 1 are dead behind nodes 3 and 4, where `start` tells what is dead at the end.
+fn dead(plan: &Plan, start: Bits) -> Result<[bool; 2], Fail> {
     let kind = Bitwise(Dead {});
     let mut values = [Bits::none(); 6];
     let mut effects = [passing(&kind); 6];
@@ -96,37 +71,27 @@ fn dead(
     sweep(
         plan,
         &kind,
-        direction,
+        Direction::Backward,
         start,
         &mut values,
         &mut effects,
         &mut regions,
     )?;
-    Ok(bits(values, variable))
+    Ok([values[3].bit(0), values[4].bit(1)])
 }
 
-// Backward with nothing kept, all is dead at the start. Variable 0 is assigned by node 3 alone, so if it is kept it is
-// dead at node 0 alone. If node 5 uses it, it is not dead at nodes 4 and 3, which some run reaches behind node 5, nor at
-// node 0, as node 5 may come last. Variable 1 is used by node 2, and assigned by node 4.
-// Forward, node 5 uses variable 0 last in some runs to nodes 2, 3 and 4; no run to node 5 uses it.
 #[test]
 fn what_is_kept_is_not_dead(rt: HostRuntime) -> Result<(), Fail> {
-    let backward = Direction::Backward;
     let plan = draw(&rt, Statement::Idle, Statement::Send(2))?;
-    assert!(rt; dead(&plan, backward, Bits::every(), 0)? == [true; 6]);
-    let kept = Bits::every().without(0);
-    assert!(rt; dead(&plan, backward, kept, 0)? == [true, false, false, false, false, false]);
+    assert!(rt; dead(&plan, Bits::every())? == [true, true]);
+    assert!(rt; dead(&plan, Bits::every().without(0))? == [false, true]);
     let used = draw(&rt, Statement::Send(0), Statement::Send(1))?;
-    let every = Bits::every();
-    assert!(rt; dead(&used, backward, every, 0)? == [false, true, true, false, false, true]);
-    assert!(rt; dead(&used, backward, every, 1)? == [true, false, true, true, false, false]);
-    let forward = Direction::Forward;
-    assert!(rt; dead(&used, forward, every, 0)? == [true, true, false, false, false, true]);
+    assert!(rt; dead(&used, Bits::every())? == [false, false]);
     Ok(())
 }
 
-// The value of variable 2 at each node, where it is 1 at the start.
-fn fixed(plan: &Plan, direction: Direction) -> Result<[Constant; 6], Fail> {
+// The value of variable 2 before nodes 2 and 3.
+fn fixed(plan: &Plan) -> Result<(Constant, Constant), Fail> {
     let kind = Fixed { variable: 2 };
     let mut values = [Constant::Unfixed; 6];
     let mut effects = [passing(&kind); 6];
@@ -134,136 +99,52 @@ fn fixed(plan: &Plan, direction: Direction) -> Result<[Constant; 6], Fail> {
     sweep(
         plan,
         &kind,
-        direction,
-        Constant::Number(1),
+        Direction::Forward,
+        Constant::Unfixed,
         &mut values,
         &mut effects,
         &mut regions,
     )?;
-    Ok(values)
+    Ok((values[2], values[3]))
 }
 
-// Node 0 sets variable 2 to -4, and node 5 may set it to 10.
-// Forward, node 5 is in every run to node 2, and in some of those to nodes 3 and 4. Backward it is in every run to
-// node 0, and in some of those to nodes 4 and 3; elsewhere the variable is as at the start, as node 0 is in no run.
 #[test]
 fn a_set_beside_unfixes_a_variable(rt: HostRuntime) -> Result<(), Fail> {
-    let one = Constant::Number(1);
-    let low = Constant::Number(-4);
-    let high = Constant::Number(10);
-    let unfixed = Constant::Unfixed;
-    let idle = draw(&rt, Statement::Idle, Statement::Send(2))?;
-    let set = draw(&rt, Statement::Set(2, 10), Statement::Send(2))?;
-    let forward = Direction::Forward;
-    assert!(rt; fixed(&idle, forward)? == [one, low, low, low, low, low]);
-    assert!(rt; fixed(&set, forward)? == [one, low, high, unfixed, unfixed, low]);
-    let backward = Direction::Backward;
-    assert!(rt; fixed(&idle, backward)? == [one; 6]);
-    assert!(rt; fixed(&set, backward)? == [high, one, one, unfixed, unfixed, one]);
+    let (before, within) = fixed(&draw(&rt, Statement::Idle, Statement::Send(2))?)?;
+    assert_eq!(rt; before, Constant::Number(-4));
+    assert_eq!(rt; within, Constant::Number(-4));
+    let (before, within) = fixed(&draw(&rt, Statement::Set(2, 10), Statement::Send(2))?)?;
+    assert_eq!(rt; before, Constant::Number(10));
+    assert_eq!(rt; within, Constant::Unfixed);
     Ok(())
 }
 
-// The value of variable 2 at each node, and which variables are dead.
-fn pair(plan: &Plan, direction: Direction) -> Result<[Both<Constant, Bits>; 6], Fail> {
-    let kind = Pair {
-        left: Fixed { variable: 2 },
-        right: Bitwise(Dead {}),
-    };
-    let start = Both {
-        left: Constant::Number(1),
-        right: Bits::none(),
-    };
-    let mut values = [start; 6];
-    let mut effects = [passing(&kind); 6];
-    let mut regions = [passing(&kind); 3];
-    sweep(
-        plan,
-        &kind,
-        direction,
-        start,
-        &mut values,
-        &mut effects,
-        &mut regions,
-    )?;
-    Ok(values)
-}
-
-// Node 5 sets variable 2 to 10, and node 2 sends it. Forward, node 0 sets it in every run to node 3, and node 5 in some
-// behind that. Backward, every run to node 3 sends it, and in some node 5 sets it behind that; so it does in every run
-// to node 0.
 #[test]
 fn a_pair_sweeps_two_kinds_at_once(rt: HostRuntime) -> Result<(), Fail> {
-    let plan = draw(&rt, Statement::Set(2, 10), Statement::Send(2))?;
-    let forward = pair(&plan, Direction::Forward)?;
-    assert_eq!(rt; forward[0].left, Constant::Number(1));
-    assert!(rt; !forward[0].right.bit(2));
-    assert_eq!(rt; forward[3].left, Constant::Unfixed);
-    assert!(rt; forward[3].right.bit(2));
-    let backward = pair(&plan, Direction::Backward)?;
-    assert_eq!(rt; backward[3].left, Constant::Unfixed);
-    assert!(rt; !backward[3].right.bit(2));
-    assert_eq!(rt; backward[0].left, Constant::Number(10));
-    assert!(rt; backward[0].right.bit(2));
-    Ok(())
-}
-
-type Values = Both<Both<Constant, Constant>, Both<Bits, Bits>>;
-
-// The values of variables 2 and 0 at each node, whether the probe's reading is available, and which variables are dead.
-fn pairs(plan: &Plan, direction: Direction) -> Result<[Values; 6], Fail> {
+    let plan = draw(&rt, Statement::Set(5, 7), Statement::Send(2))?;
     let kind = Pair {
-        left: Pair {
-            left: Fixed { variable: 2 },
-            right: Fixed { variable: 0 },
-        },
-        right: Pair {
-            left: Bitwise(Available {
-                expressions: number(plan.nodes())?,
-            }),
-            right: Bitwise(Dead {}),
-        },
+        left: Fixed { variable: 2 },
+        right: Fixed { variable: 5 },
     };
-    let start = Both {
-        left: Both {
-            left: Constant::Number(1),
-            right: Constant::Number(1),
-        },
-        right: Both {
-            left: Bits::none(),
-            right: Bits::none(),
-        },
+    let unfixed = Both {
+        left: Constant::Unfixed,
+        right: Constant::Unfixed,
     };
-    let mut values = [start; 6];
+    let mut values = [unfixed; 6];
     let mut effects = [passing(&kind); 6];
     let mut regions = [passing(&kind); 3];
     sweep(
-        plan,
+        &plan,
         &kind,
-        direction,
-        start,
+        Direction::Forward,
+        unfixed,
         &mut values,
         &mut effects,
         &mut regions,
     )?;
-    Ok(values)
-}
-
-// Forward, every run to node 4 has node 0, which sets variable 2, and node 3, which reads the probe into variable 0; in
-// some the wait at node 5 is behind them. Backward, every run to node 5 has node 2, which reads the probe; some have
-// node 3 as well.
-#[test]
-fn pairs_nest(rt: HostRuntime) -> Result<(), Fail> {
-    let plan = draw(&rt, Statement::Wait, Statement::Probe(4, 3))?;
-    let forward = pairs(&plan, Direction::Forward)?;
-    assert_eq!(rt; forward[4].left.left, Constant::Number(-4));
-    assert_eq!(rt; forward[4].left.right, Constant::Unfixed);
-    assert!(rt; !forward[4].right.left.bit(0));
-    assert!(rt; forward[4].right.right.bit(0));
-    let backward = pairs(&plan, Direction::Backward)?;
-    assert_eq!(rt; backward[5].left.left, Constant::Number(1));
-    assert_eq!(rt; backward[5].left.right, Constant::Unfixed);
-    assert!(rt; backward[5].right.left.bit(0));
-    assert!(rt; !backward[5].right.right.bit(0));
+    assert_eq!(rt; values[2].left, Constant::Number(-4));
+    assert_eq!(rt; values[2].right, Constant::Number(7));
+    assert_eq!(rt; values[4].right, Constant::Unfixed);
     Ok(())
 }
 

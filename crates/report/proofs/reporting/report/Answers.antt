@@ -1,7 +1,6 @@
 use Rattle.std.proofs.Common.{◌≡◌, ℕ, ◌-◌, ◌≤◌, List, length, take, sym, refl, ap, ◌∙◌, arith}
 use Rattle.std.proofs.lemmas.List.{length-take-le}
 use Rattle.plan.specs.Stored.{seen}
-use Rattle.plan.proofs.Opened.{opened}
 use Rattle.report.proofs.Found.{none_sent, fits, reports}
 use Rattle.report.proofs.reporting.report.Goals as goal
 
@@ -23,7 +22,7 @@ put_report-requires c =
     let unread-long = taken c.dead.new.out _ _ all small unread.kept_rest.long in
     record {
       along = (listed-long ∙ sym unread-long, omega (arith, listed-long, small, c.find_sent.auto.sent));
-      room = fits p (opened p c.args.plan.now.sound) c.args.conditions.kept _ c.redundant.new.out _ c.dead.new.out c.find_sent.new.sent listed unread c.in_ok-find_sent.ensures _ all _ listed-long small (length c.args.out.now) c.if-out-lt-TEXT.false;
+      room = fits p c.args.plan.now.ranged c.args.conditions.kept _ c.redundant.new.out _ c.dead.new.out c.find_sent.new.sent listed unread c.in_ok-find_sent.ensures _ all _ listed-long small (length c.args.out.now) c.if-out-lt-TEXT.false;
     }
 
 pub returns : goal.returns
@@ -34,5 +33,5 @@ returns c =
     let small : length p.nodes ≤ 256 = c.args.plan.now.small.0 in
     let all : length c.nodes-nodes.result.now - 0 ≡ length p.nodes = omega (arith, ap length c.nodes-nodes.ensures) in
     let listed-long = taken c.redundant.new.out _ _ all small listed.kept.long in
-    reports p (opened p c.args.plan.now.sound) c.args.conditions.kept _ c.redundant.new.out _ c.dead.new.out c.find_sent.new.sent listed unread c.in_ok-find_sent.ensures _ all _ listed-long
+    reports p c.args.plan.now.ranged c.args.conditions.kept _ c.redundant.new.out _ c.dead.new.out c.find_sent.new.sent listed unread c.in_ok-find_sent.ensures _ all _ listed-long
     c.args.out.now c.put_report.new.out c.put_report.result c.if-out-lt-TEXT.false c.put_report.ensures

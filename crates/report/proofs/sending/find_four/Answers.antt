@@ -17,7 +17,7 @@ use Rattle.report.proofs.sending.find_four.Goals as goal
 pub returns : goal.returns
 returns c =
     let p = seen c.args.plan.now in
-    let swept = c.in_ok-sweep.ensures in
+    let swept = c.in_ok-sweep.ensures.swept in
     let values = c.sweep.new.values in
     sent_below p (opened p c.args.plan.now.sound) swept.whole c.args.first values
     (subst (λ (k : Pair (Pair declared.Fixed declared.Fixed) (Pair declared.Fixed declared.Fixed)). ValuesMeet (four k) p Forward unfixed_four values) c.four_fixed-kind.ensures swept.values_meet)

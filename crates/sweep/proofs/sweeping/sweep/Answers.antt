@@ -9,8 +9,8 @@ use Rattle.runs.specs.Actions.{run, steps_of}
 use Rattle.sweep.proofs.Fronts.{front_at, kept_from}
 use Rattle.sweep.proofs.sweeping.sweep.Goals as goal
 
-pub returns : goal.returns
-returns g c =
+pub returns-clause-swept : goal.returns-clause-swept
+returns-clause-swept g c =
     let a = g.K.Kind.algebra c.args.kind.now in
     let p = seen c.args.plan.now in
     let d = c.args.direction in
@@ -25,7 +25,6 @@ returns g c =
     let regions-long : length c.fill.new.regions ≡ length p.ends = c.fill.auto.regions ∙ length-take-le (length c.regions-areas.result.now - 0) c.args.regions.now (omega (arith, areas, regions-room)) ∙ omega (arith, areas) in
     record {
       whole = c.in_ok-whole.ensures;
-      room = (values-room, effects-room, regions-room);
       values_meet = λ n h.
           subst (λ (v : _). IsMeet a (Run p d n) (λ w. run a steps w c.args.start) v) (sym (front_at c.fill.new.values c.args.values.now _ _ nodes values-long values-room n a.top h))
           (c.fill.ensures.values n h);

@@ -1,11 +1,18 @@
-use Rattle.std.proofs.Common.{refl, arith, rules}
+use Rattle.std.proofs.Common.{refl, sym, subst, arith, rules}
 use mathlib.Core.Logic.{∥∥₁_map}
+use Rattle.plan.specs.declared.node.Node.TheVariants.{Step}
 use Rattle.plan.specs.Stored.{seen}
 use Rattle.plan.proofs.Soundness.{sound_as, lay_sound}
+use Rattle.plan.proofs.Ranges.{AllRanged, ranged_pushed}
 use Rattle.plan.proofs.stored.Plan.lay.Goals as goal
 
 pub invariant_of-self-clause-sound : goal.invariant_of-self-clause-sound
 invariant_of-self-clause-sound c =
     let old = c.args.self.now in
     ∥∥₁_map old.sound
-    (λ s. sound_as _ _ c.push_reserved.ensures.items refl refl (lay_sound (seen old) s c.args.region c.args.statement (omega arith) (search rules)))
+    (λ s. sound_as _ _ c.push_reserved.ensures.items refl refl (lay_sound (seen old) s c.args.region c.args.statement (omega arith)))
+
+pub invariant_of-self-clause-ranged : goal.invariant_of-self-clause-ranged
+invariant_of-self-clause-ranged c =
+    let old = c.args.self.now in
+    subst AllRanged (sym c.push_reserved.ensures.items) (ranged_pushed old.nodes.items (Step c.args.region c.args.statement) (search rules) old.ranged)
