@@ -1,5 +1,5 @@
 -- Lists of nodes and of ends, with one more or with one replaced.
-use Rattle.std.proofs.Common.{◌≡◌, ℕ, zero, suc, ◌+◌, ◌<◌, ◌≤◌, ◌≢◌, ◌⊎◌, List, [], ◌∷◌, ◌++◌, length, get_or, take, set, replicate, Some, None, Option, sym, refl, ap, ◌∙◌, subst, subst₂, inl, inr, add_assoc, zero-add, arith, length-append, length-set, take_all, get_or-set_other, get_or-set_same}
+use Rattle.std.proofs.Common.{◌≡◌, ℕ, zero, suc, ◌+◌, ◌<◌, ◌⊎◌, List, [], ◌∷◌, ◌++◌, length, get_or, take, set, replicate, None, Option, sym, refl, ap, ◌∙◌, subst, subst₂, inl, inr, add_assoc, zero-add, arith, length-append, length-set, take_all, get_or-set_other, get_or-set_same}
 use lib.Seq.{take-append-le, take-append_seam}
 use Rattle.std.proofs.lemmas.List.{get_or_append_left, get_or_at}
 use Rattle.std.proofs.lemmas.Bool.{cases_eq}

@@ -1,5 +1,4 @@
 -- A sound plan is sound in one way only, so the truncated fact in a stored plan can be opened.
-use Rattle.std.proofs.Common.{◌≡◌}
 use mathlib.Core.Logic.{∥∥₁_elim}
 use mathlib.Core.HLevel.{×_prop, ×₃_prop}
 use native.Mathlib.Nat.{ℕ_set}

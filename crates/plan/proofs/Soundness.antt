@@ -1,7 +1,6 @@
 -- Every call that is accepted keeps a plan sound.
-use Rattle.std.proofs.Common.{◌≡◌, ℕ, suc, ◌+◌, ◌<◌, ◌≤◌, Bool, true, false, cond, not, ◌||◌, ltb, leb, ◌⊎◌, List, [], ◌∷◌, ◌++◌, length, get_or, take, set, replicate, Some, None, Option, sym, refl, ap, ◌∙◌, subst, subst₂, inl, inr, add-zero, arith, length-append, length-set, get_or-set_other, get_or-set_same}
+use Rattle.std.proofs.Common.{◌≡◌, ℕ, suc, ◌+◌, ◌<◌, Bool, true, false, cond, not, ◌||◌, ltb, leb, ◌⊎◌, List, [], ◌∷◌, ◌++◌, length, get_or, take, set, replicate, Some, None, Option, sym, refl, ap, ◌∙◌, subst, subst₂, inl, inr, add-zero, arith, length-append, length-set, get_or-set_other, get_or-set_same}
 use lib.ListN.{length-replicate}
-use Rattle.std.proofs.lemmas.List.{get_or_append_left, get_or_at}
 use Rattle.std.proofs.lemmas.Bool.{cases_eq, true≢false, leb-false, eqb-true, not-false, or_parts}
 use Rattle.plan.specs.declared.statement.Statement.{Statement}
 use Rattle.plan.specs.declared.statement.Statement.TheVariants.{Idle}
@@ -12,7 +11,7 @@ use Rattle.plan.specs.declared.node.Arc as declared_arc
 use Rattle.refusals.specs.declared.refusal.Refusal.{Refusal}
 use Rattle.plan.specs.declared.call.Call.{Call}
 use Rattle.plan.specs.declared.call.Call.TheVariants.{Lay, Fork, Arc, Ends, Change}
-use Rattle.plan.specs.Drawn.{Drawn, blank, node_at, region_of, width, branches, regions_before, Lies, Joins, Sound}
+use Rattle.plan.specs.Drawn.{Drawn, blank, node_at, region_of, width, branches, Lies, Joins, Sound}
 use Rattle.plan.specs.Calls.{accepted, is_fork, no_region, no_node, outside, has_arc, kept_if, after, after_all, drawn}
 use Rattle.plan.specs.Statements.{in_range}
 use Rattle.plan.proofs.Nodes.{branches-++, pushed, in_pushed, region_replaced, in_replaced, branches_replaced, branches_set, getD_copies, ends_more}

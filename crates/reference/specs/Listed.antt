@@ -1,5 +1,5 @@
 -- When the runs of a plan are listed, and what the answer holds.
-use Rattle.std.specs.Prelude.{◌≡◌, ℕ, ◌≤◌, List, length}
+use Rattle.std.specs.Prelude.{◌≡◌, ℕ, ◌≤◌, length}
 use Rattle.plan.specs.Drawn.{Drawn}
 use Rattle.plan.specs.Paths.{Whole, Fault}
 use Rattle.reference.specs.declared.unlisted.Unlisted.{Unlisted}

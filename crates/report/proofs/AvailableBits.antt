@@ -1,5 +1,5 @@
 -- What the bit of an expression says of a run.
-use Rattle.std.proofs.Common.{◌≡◌, ℕ, ◌<◌, Bool, true, false, ◌&&◌, ◌||◌, eqb, ◌⊎◌, ◌↔◌, List, [], ◌∷◌, ◌++◌, length, Some, None, Option, sym, refl, ap, ◌∙◌, subst, ap₂, inl, inr, eq-eqb}
+use Rattle.std.proofs.Common.{◌≡◌, ℕ, ◌<◌, Bool, true, false, ◌&&◌, ◌||◌, ◌↔◌, List, [], ◌∷◌, Some, None, Option, sym, refl, ap, ◌∙◌, ap₂, inl, inr, eq-eqb}
 use mathlib.Core.Bool.{or-false}
 use borrow.Author.Tests.{clash}
 use Rattle.std.specs.List.{slice_get}
@@ -7,11 +7,10 @@ use Rattle.plan.specs.declared.node.Node.{Node}
 use Rattle.plan.specs.declared.node.Node.TheVariants.{Step, Fork}
 use Rattle.plan.specs.Drawn.{Drawn, node_at}
 use Rattle.bitset.specs.declared.bits.Bits.{Bits}
-use Rattle.kinds.specs.declared.effect.Effect.{Effect}
 use Rattle.expressions.specs.declared.expression.Expression.{Expression}
 use Rattle.facts.specs.Available.{tested, available_effect}
-use Rattle.bitset.specs.Bits.{bit, bits_from, both, none}
-use Rattle.kinds.specs.Effects.{act, Below, IsMeet}
+use Rattle.bitset.specs.Bits.{bit, none}
+use Rattle.kinds.specs.Effects.{act, IsMeet}
 use Rattle.expressions.specs.Expressions.{computed_by, disturbed, makes, holds, as_list, same, parts}
 use Rattle.kinds.specs.Kinds.{Algebra}
 use Rattle.facts.specs.Masks.{bitwise}
@@ -20,7 +19,7 @@ use Rattle.expressions.proofs.Places.{same_true}
 use Rattle.runs.specs.Actions.{run, of_node, steps_of}
 use Rattle.report.proofs.Bitwise.{becomes, setting_bit, along, along_law, bit_meet}
 use Rattle.report.proofs.Backing.{since_map}
-use Rattle.report.specs.Strikes.{Every, Since, disturbed_by, Computes, Spares, Available}
+use Rattle.report.specs.Strikes.{disturbed_by, Available}
 
 -- whether a node computes e
 abbrev pub made_by : Node → Expression → Bool

@@ -1,5 +1,5 @@
 -- A listed step finds its expression computed by a step that is not listed.
-use Rattle.std.proofs.Common.{◌≡◌, ℕ, zero, suc, ◌+◌, ◌<◌, ◌≤◌, Bool, true, false, List, [], ◌∷◌, ◌++◌, length, sym, refl, ap, ◌∙◌, subst, append_assoc, arith, length-append}
+use Rattle.std.proofs.Common.{◌≡◌, ℕ, zero, suc, ◌<◌, Bool, true, false, List, [], ◌∷◌, ◌++◌, length, sym, refl, ap, ◌∙◌, subst, append_assoc, arith, length-append}
 use Rattle.plan.specs.declared.node.Direction.TheVariants.{Forward}
 use Rattle.plan.specs.Drawn.{Drawn, Sound}
 use Rattle.plan.specs.Paths.{Whole}

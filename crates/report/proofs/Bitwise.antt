@@ -5,7 +5,7 @@ use Rattle.plan.specs.declared.statement.Statement.{Statement}
 use Rattle.bitset.specs.declared.bits.Bits.{Bits}
 use Rattle.kinds.specs.declared.effect.Effect.{Effect}
 use Rattle.bitset.specs.Bits.{bit, bits_from, both}
-use Rattle.kinds.specs.Effects.{act, Below, IsMeet}
+use Rattle.kinds.specs.Effects.{Below, IsMeet}
 use Rattle.facts.specs.Masks.{masked, setting, bitwise}
 use Rattle.bitset.proofs.Digits.{bit_from, same_bits}
 use Rattle.report.specs.Strikes.{Every, Since}

@@ -1,12 +1,10 @@
 -- The two lists and the numbers that are sent are what a report tells.
-use Rattle.std.proofs.Common.{◌≡◌, ℕ, ◌<◌, ◌≤◌, Bool, true, false, ◌||◌, eqb, ◌⊎◌, ◌↔◌, List, [], ◌∷◌, length, get_or, take, drop, replicate, ℤ, is_some, Some, None, Option, sym, refl, ap, ◌∙◌, subst, inl, inr, zero-add, arith, length-append, eq-eqb}
+use Rattle.std.proofs.Common.{◌≡◌, ℕ, ◌<◌, ◌≤◌, Bool, true, false, eqb, ◌↔◌, List, length, get_or, take, drop, replicate, ℤ, is_some, Some, None, Option, sym, refl, ap, ◌∙◌, subst, inl, inr, zero-add, arith, length-append, eq-eqb}
 use mathlib.Core.Bool.{or-false}
 use borrow.Author.Tests.{clash}
 use Rattle.std.proofs.lemmas.List.{get_or-take}
 use Rattle.std.proofs.lemmas.Bool.{cases_Bool}
 use Rattle.plan.specs.declared.node.Node.{Node}
-use Rattle.plan.specs.declared.node.Node.TheVariants.{Step}
-use Rattle.plan.specs.declared.statement.Statement.TheVariants.{Send}
 use Rattle.plan.specs.Drawn.{Drawn, node_at, Ranged}
 use Rattle.plan.proofs.Nodes.{getD_copies}
 use Rattle.expressions.specs.Expressions.{computed_by}
@@ -16,7 +14,7 @@ use Rattle.report.specs.Strikes.{RedundantStep}
 use Rattle.report.specs.Unread.{assigned_by, used_by, DeadStep, ListsDead}
 use Rattle.report.specs.Putting.{Put}
 use Rattle.report.specs.Reported.{SendsFixed, Findings, Found, report_text, findings_in, Reports}
-use Rattle.report.specs.Sending.{SendsBelow, SentBelow}
+use Rattle.report.specs.Sending.{SentBelow}
 use Rattle.report.proofs.Length.{Alone, report_short}
 use Rattle.report.proofs.Putting.{put_whole}
 use Rattle.report.proofs.Ranges.{node_uses_low}

@@ -1,18 +1,16 @@
 -- What a run leaves in a variable.
-use Rattle.std.proofs.Common.{◌≡◌, ℕ, ◌<◌, Bool, true, false, cond, ◌||◌, eqb, ◌⊎◌, ◌↔◌, List, [], ◌∷◌, ◌++◌, length, get_or, ℤ, is_some, Some, None, Option, sym, refl, ap, ◌∙◌, subst, ap₂, inl, inr, arith, eq-eqb, eqb-true}
+use Rattle.std.proofs.Common.{◌≡◌, ℕ, ◌<◌, Bool, true, false, cond, ◌||◌, eqb, ◌⊎◌, ◌↔◌, List, [], ◌∷◌, ◌++◌, length, get_or, ℤ, is_some, Some, Option, sym, refl, ap, ◌∙◌, ap₂, inl, inr, arith, eq-eqb, eqb-true}
 use mathlib.Core.Bool.{or-false}
 use borrow.Author.Tests.{clash}
 use Rattle.std.proofs.lemmas.Bool.{cases_Bool, cond-true, cond-false}
 use Rattle.plan.specs.declared.node.Node.{Node}
 use Rattle.plan.specs.declared.node.Node.TheVariants.{Step, Fork}
-use Rattle.plan.specs.declared.statement.Statement.{Statement}
 use Rattle.plan.specs.declared.statement.Statement.TheVariants.{Idle, Wait, Set, Copy, Send, Probe, Add, Sub, Min, Max}
 use Rattle.plan.specs.Drawn.{Drawn, node_at, Sound}
-use Rattle.plan.specs.Statements.{assigns}
 use Rattle.facts.specs.declared.constant.Constant.{Constant}
 use Rattle.facts.specs.declared.constant.Constant.TheVariants.{Unknown, Number, Unfixed}
 use Rattle.facts.specs.declared.constant.Door.TheVariants.{Open, Shut}
-use Rattle.kinds.specs.Effects.{act, Below, IsMeet}
+use Rattle.kinds.specs.Effects.{act, IsMeet}
 use Rattle.facts.specs.Fixed.{fixed, agreed, becomes, height}
 use Rattle.facts.specs.FixedLaws.{equal_tells, meet_idem}
 use Rattle.expressions.specs.Variables.{among, assigned}

@@ -1,9 +1,9 @@
 -- How long a report can be.
-use Rattle.std.proofs.Common.{◌≡◌, ℕ, zero, suc, ◌+◌, ◌*◌, ◌/◌, ◌^◌, ◌<◌, ◌≤◌, Bool, true, false, cond, ◌⊎◌, List, [], ◌∷◌, ◌++◌, length, ℤ, pos, negsuc, Some, None, codes, decimal, Option, sym, refl, ap, ◌∙◌, inl, inr, arith, lit<, lit≤, length-append, w32, SFits}
+use Rattle.std.proofs.Common.{◌≡◌, ℕ, zero, suc, ◌*◌, ◌/◌, ◌^◌, ◌<◌, ◌≤◌, Bool, true, false, length, ℤ, pos, negsuc, Some, None, decimal, Option, arith, lit<, length-append, w32, SFits}
 use Rattle.std.proofs.lemmas.Fmt.{length-decimal-le}
 use Rattle.std.proofs.lemmas.Bool.{true≢false}
 use Rattle.tenths.specs.Text.{text_of, size_text}
-use Rattle.report.specs.Reported.{Findings, line, send_line, lines_of, node_lines, lines_to, count_to, total_line, report_text}
+use Rattle.report.specs.Reported.{Findings, lines_of, node_lines, lines_to, count_to, total_line, report_text}
 use Rattle.report.proofs.Lines.{count_le}
 
 -- a node that sends is neither redundant nor dead

@@ -10,10 +10,8 @@ use Rattle.bitset.specs.declared.bits.Bits.{Bits}
 use Rattle.expressions.specs.declared.expression.Expression.{Expression}
 use Rattle.expressions.specs.declared.table.Expressions.{Expressions}
 use Rattle.bitset.specs.Bits.{bit, every, none}
-use Rattle.kinds.specs.Effects.{IsMeet}
-use Rattle.expressions.specs.Expressions.{computed_by, place, expressions, listed, Holding}
+use Rattle.expressions.specs.Expressions.{computed_by, place, listed, Holding}
 use Rattle.expressions.proofs.Numbered.{length_listed}
-use Rattle.runs.specs.Actions.{run, steps_of}
 use Rattle.runs.specs.Runs.{Run}
 use Rattle.sweep.specs.Swept.{ValuesMeet}
 use Rattle.report.specs.Strikes.{Computes, Available, RedundantStep, Redundant}

@@ -1,5 +1,5 @@
 -- The bytes that a sweep of the dead variables gives list the dead steps.
-use Rattle.std.proofs.Common.{◌≡◌, ℕ, ◌<◌, ◌≤◌, Bool, true, false, ◌||◌, eqb, ◌⊎◌, ◌↔◌, List, [], ◌∷◌, length, get_or, sym, refl, ap, ◌∙◌, subst, eq-eqb, eqb-true}
+use Rattle.std.proofs.Common.{◌≡◌, ℕ, ◌<◌, ◌≤◌, true, eqb, ◌⊎◌, ◌↔◌, List, [], ◌∷◌, length, get_or, sym, refl, ap, ◌∙◌, subst, eq-eqb, eqb-true}
 use mathlib.Core.Bool.{or-false}
 use borrow.Author.Tests.{clash}
 use Rattle.plan.specs.declared.node.Direction.TheVariants.{Backward}

@@ -3,16 +3,15 @@
 --   Filled           the first slots hold what is given, and the rest what they held
 --   ListsRedundant   the bytes list the redundant steps
 --   Refused          why they are not listed
-use Rattle.std.specs.Prelude.{◌≡◌, ℕ, ◌<◌, ◌≤◌, Bool, true, false, cond, ◌⊎◌, List, length, Some, None, Option, ◌==◌, slice_index, slice_index_or}
+use Rattle.std.specs.Prelude.{◌≡◌, ℕ, ◌<◌, ◌≤◌, Bool, false, cond, ◌⊎◌, List, length, Some, None, Option, ◌==◌, slice_index, slice_index_or}
 use Rattle.refusals.specs.declared.refusal.Refusal.{Refusal}
 use Rattle.refusals.specs.declared.refusal.Refusal.TheVariants.{Short}
-use Rattle.plan.specs.declared.node.Node.{Node}
-use Rattle.plan.specs.Drawn.{Drawn, node_at}
+use Rattle.plan.specs.Drawn.{Drawn}
 use Rattle.plan.specs.Paths.{Whole, Fault}
 use Rattle.bitset.specs.declared.bits.Bits.{Bits}
 use Rattle.expressions.specs.declared.expression.Expression.{Expression}
 use Rattle.bitset.specs.Bits.{bit}
-use Rattle.expressions.specs.Expressions.{computed_by, place, Fitting, Crowded}
+use Rattle.expressions.specs.Expressions.{place, Fitting, Crowded}
 use Rattle.sweep.specs.Swept.{KeptFrom}
 use Rattle.report.specs.Strikes.{Redundant, Strikeable}
 

@@ -5,7 +5,7 @@
 --   sent_of     what is noted of a node: the value of its variable, if that is one of the four, else what was noted before
 --   SendsBelow  the step sends a variable below a limit that is fixed to c before it
 --   SentBelow   for every node, the number that it sends if its variable is below the limit and fixed
-use Rattle.std.specs.Prelude.{◌≡◌, ℕ, zero, suc, ◌+◌, ◌-◌, ◌<◌, Bool, cond, ◌&&◌, ◌↔◌, List, length, ℤ, Some, None, Option, nat_le, nat_lt, slice_index_or}
+use Rattle.std.specs.Prelude.{◌≡◌, ℕ, zero, suc, ◌+◌, ◌-◌, ◌<◌, cond, ◌&&◌, ◌↔◌, List, length, ℤ, Some, None, Option, nat_le, nat_lt, slice_index_or}
 use Rattle.plan.specs.declared.statement.Statement.{Statement}
 use Rattle.plan.specs.declared.statement.Statement.TheVariants.{Idle, Wait, Set, Copy, Send, Probe, Add, Sub, Min, Max}
 use Rattle.plan.specs.declared.node.Node.{Node}

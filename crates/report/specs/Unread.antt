@@ -2,7 +2,7 @@
 --   Unread     what runs after a step does not read v: v is assigned before any use, or it is neither used nor kept
 --   DeadStep   the step assigns a variable that is unread on every run
 --   DeadSteps  listed are the dead steps
-use Rattle.std.specs.Prelude.{◌≡◌, ℕ, ◌<◌, ◌≤◌, Bool, true, false, ◌⊎◌, ◌↔◌, List, [], ◌∷◌, length, Some, None, Option, slice_index}
+use Rattle.std.specs.Prelude.{◌≡◌, ℕ, ◌<◌, ◌≤◌, Bool, true, false, ◌⊎◌, ◌↔◌, List, [], ◌∷◌, length, slice_index}
 use Rattle.refusals.specs.declared.refusal.Refusal.{Refusal}
 use Rattle.refusals.specs.declared.refusal.Refusal.TheVariants.{Short}
 use Rattle.plan.specs.declared.node.Node.{Node}

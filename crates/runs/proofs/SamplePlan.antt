@@ -1,5 +1,5 @@
 -- The sample plan is sound and whole.
-use Rattle.std.proofs.Common.{◌≡◌, ℕ, zero, suc, ◌<◌, true, List, [], ◌∷◌, Some, None, sym, refl, ap, subst, subst₂, arith, lit<}
+use Rattle.std.proofs.Common.{◌≡◌, ℕ, zero, suc, ◌<◌, List, [], ◌∷◌, Some, None, sym, refl, ap, subst, subst₂, arith, lit<}
 use Rattle.std.proofs.lemmas.Bool.{true≢false}
 use Rattle.plan.specs.declared.node.Node.TheVariants.{Fork}
 use Rattle.plan.specs.declared.node.Ends.{Ends}

@@ -1,5 +1,5 @@
 -- A region that is solved stays solved while its own nodes and the regions above it keep their effects.
-use Rattle.std.proofs.Common.{◌≡◌, ℕ, zero, suc, ◌+◌, ◌<◌, ◌≤◌, List, length, set, Some, sym, refl, ap, ◌∙◌, subst, ap₂, arith, get_or-set_other, get_or-set_same}
+use Rattle.std.proofs.Common.{◌≡◌, ℕ, zero, suc, ◌<◌, ◌≤◌, List, length, set, Some, sym, refl, ap, ◌∙◌, subst, ap₂, arith, get_or-set_other, get_or-set_same}
 use Rattle.plan.specs.declared.node.Node.{Node}
 use Rattle.plan.specs.declared.node.Node.TheVariants.{Step, Fork}
 use Rattle.plan.specs.declared.node.Ends.{Ends}
@@ -16,7 +16,7 @@ use Rattle.runs.specs.Words.{count_from}
 use Rattle.runs.specs.Actions.{joint, steps_of}
 use Rattle.runs.specs.Scheme.{does, does_node, Lowered, Lowered.starts, Lowered.lowers}
 use Rattle.sweep.specs.Slots.{slot}
-use Rattle.sweep.specs.Rounds.{node_does, brought, Settled, SettledTo}
+use Rattle.sweep.specs.Rounds.{node_does, SettledTo}
 use Rattle.sweep.specs.Solving.{SolvedIn}
 
 last_of : (P : ℕ → Type 0) (d : Direction) (e : Ends) → P e.first × P e.last → P (last_in d e)

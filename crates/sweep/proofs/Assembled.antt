@@ -1,11 +1,10 @@
 -- A plan all of whose regions are solved is solved.
-use Rattle.std.proofs.Common.{◌≡◌, ℕ, ◌+◌, ◌-◌, ◌<◌, ◌≤◌, ◌⊎◌, List, length, Some, sym, refl, ap, ◌∙◌, subst, inl, inr, arith}
+use Rattle.std.proofs.Common.{◌≡◌, ℕ, ◌+◌, ◌<◌, ◌≤◌, ◌⊎◌, List, length, sym, refl, ◌∙◌, subst, inl, inr, arith}
 use Rattle.std.proofs.lemmas.Bool.{cases_eq}
 use Rattle.plan.specs.declared.node.Arc.{Arc}
-use Rattle.plan.specs.declared.node.Ends.{Ends}
 use Rattle.plan.specs.declared.node.Direction.{Direction}
-use Rattle.plan.specs.Drawn.{Drawn, node_at, arc_at, ends_at, region_of, Lies, Joins, Sound}
-use Rattle.plan.specs.Paths.{turned, Leads}
+use Rattle.plan.specs.Drawn.{Drawn, node_at, arc_at, region_of, Joins, Sound}
+use Rattle.plan.specs.Paths.{Leads}
 use Rattle.plan.proofs.Forks.{region_there}
 use Rattle.plan.proofs.Marking.{joins_turned, ended_there}
 use Rattle.kinds.specs.declared.effect.Effect.{Effect}

@@ -1,7 +1,7 @@
 -- Branches given their side values one after another.
-use Rattle.std.proofs.Common.{◌≡◌, ℕ, ◌+◌, ◌-◌, ◌<◌, ◌≤◌, ◌⊎◌, List, length, get_or, take, drop, set, sym, refl, ap, ◌∙◌, subst, inl, inr, arith, length-set, get_or-set_other, get_or-set_same}
+use Rattle.std.proofs.Common.{◌≡◌, ℕ, ◌+◌, ◌<◌, ◌⊎◌, List, length, take, drop, set, sym, refl, ◌∙◌, subst, inl, inr, arith, length-set, get_or-set_other, get_or-set_same}
 use Rattle.std.proofs.lemmas.Bool.{cases_eq}
-use Rattle.plan.specs.Drawn.{Drawn, node_at, region_of, Sound}
+use Rattle.plan.specs.Drawn.{Drawn, Sound}
 use Rattle.plan.specs.Paths.{Whole}
 use Rattle.kinds.specs.declared.effect.Effect.{Effect}
 use Rattle.kinds.specs.Kinds.{Algebra}

@@ -1,5 +1,5 @@
 -- The first node of a region lies in it.
-use Rattle.std.proofs.Common.{◌≡◌, ℕ, ◌<◌, length, Some, None, Option, sym, refl, ap, ◌∙◌, subst, arith}
+use Rattle.std.proofs.Common.{◌≡◌, ℕ, ◌<◌, length, Some, None, Option, refl, ap, ◌∙◌}
 use Rattle.plan.specs.declared.node.Ends.{Ends}
 use Rattle.plan.specs.Drawn.{Drawn, node_at, ends_at, region_of, Lies, Sound}
 use Rattle.plan.specs.Paths.{Whole}

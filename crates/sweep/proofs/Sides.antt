@@ -1,5 +1,5 @@
 -- The side values of one fork's branches more.
-use Rattle.std.proofs.Common.{◌≡◌, ℕ, ◌+◌, ◌-◌, ◌<◌, ◌≤◌, ◌⊎◌, List, length, take, drop, set, sym, refl, ap, ◌∙◌, subst, ap₂, inl, inr, arith, length-set, get_or-set_same}
+use Rattle.std.proofs.Common.{◌≡◌, ℕ, ◌+◌, ◌-◌, ◌<◌, ◌≤◌, ◌⊎◌, List, length, set, sym, ap, ◌∙◌, subst, ap₂, inl, inr, arith, length-set, get_or-set_same}
 use Rattle.std.proofs.lemmas.Bool.{cases_eq}
 use Rattle.plan.specs.declared.node.Node.TheVariants.{Fork}
 use Rattle.plan.specs.Drawn.{Drawn, node_at, region_of, regions_before, Sound}
@@ -10,10 +10,10 @@ use Rattle.kinds.specs.Kinds.{Algebra}
 use Rattle.runs.specs.Words.{branches_of, Forks}
 use Rattle.runs.specs.Scheme.{met, Pick}
 use Rattle.sweep.specs.Slots.{forced_slot, value_slot}
-use Rattle.sweep.specs.Valuing.{met_but, home, EnteredTo, SidesTo}
+use Rattle.sweep.specs.Valuing.{home, EnteredTo, SidesTo}
 use Rattle.sweep.proofs.Homes.{home_lies}
 use Rattle.sweep.proofs.Meets.{but_slots}
-use Rattle.sweep.proofs.Owners.{Owns, owns, owned_before, owned_within, picked_from, region_before}
+use Rattle.sweep.proofs.Owners.{owns, owned_before, owned_within, picked_from, region_before}
 
 module _ {V G : Type 0} (a : Algebra V G) (p : Drawn) (s : Sound p) (w : Whole p) (forces : List (Effect G V)) where
   pub sides_none : (vs : List V) → length vs ≡ length p.nodes → 0 < length p.ends → SidesTo a p forces (set vs (home p 0) a.top) 0

@@ -1,5 +1,5 @@
 -- One arc more of a round.
-use Rattle.std.proofs.Common.{◌≡◌, ℕ, ◌+◌, ◌<◌, ◌≤◌, Bool, true, false, ◌≢◌, List, length, get_or, set, MatchBool, sym, refl, ap, ◌∙◌, subst, arith, length-set, get_or-set_other, get_or-set_same, below_more}
+use Rattle.std.proofs.Common.{◌≡◌, ℕ, ◌+◌, ◌<◌, ◌≤◌, Bool, true, false, List, length, MatchBool, sym, refl, ap, ◌∙◌, subst, arith, length-set, get_or-set_other, get_or-set_same, below_more}
 use Rattle.plan.specs.declared.node.Arc.{Arc}
 use Rattle.plan.specs.declared.node.Direction.{Direction}
 use Rattle.plan.specs.Drawn.{Drawn, node_at, arc_at, region_of, Joins, Sound}
@@ -8,7 +8,6 @@ use Rattle.plan.proofs.Marking.{joins_turned}
 use Rattle.kinds.specs.declared.effect.Effect.{Effect}
 use Rattle.kinds.specs.Kinds.{Algebra}
 use Rattle.kinds.specs.Effects.{passing}
-use Rattle.runs.specs.Actions.{steps_of}
 use Rattle.runs.specs.Scheme.{Lowered.lowers}
 use Rattle.sweep.specs.Slots.{slot}
 use Rattle.sweep.specs.Rounds.{rank_sum, brought, Lowers, Settled, SettledTo, Lowering}

@@ -1,8 +1,7 @@
 -- The values of one region more.
-use Rattle.std.proofs.Common.{◌≡◌, ℕ, ◌+◌, ◌<◌, ◌≤◌, ◌⊎◌, List, length, sym, refl, ap, ◌∙◌, subst, ap₂, inl, inr, arith}
+use Rattle.std.proofs.Common.{◌≡◌, ℕ, ◌+◌, ◌<◌, ◌⊎◌, List, length, sym, refl, ap, ◌∙◌, subst, ap₂, inl, inr, arith}
 use Rattle.std.proofs.lemmas.Bool.{cases_eq}
-use Rattle.plan.specs.Drawn.{Drawn, node_at, region_of, Lies, Sound}
-use Rattle.plan.specs.Paths.{Whole}
+use Rattle.plan.specs.Drawn.{Drawn, Lies, Sound}
 use Rattle.kinds.specs.declared.effect.Effect.{Effect}
 use Rattle.kinds.specs.Kinds.{Algebra}
 use Rattle.kinds.specs.Effects.{act}

@@ -1,4 +1,3 @@
-use Rattle.std.proofs.Common.{arith}
 use Rattle.report.proofs.Found.{within}
 use Rattle.reporter.proofs.main.Goals as goal
 

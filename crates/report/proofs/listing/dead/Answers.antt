@@ -1,4 +1,4 @@
-use Rattle.std.proofs.Common.{◌≡◌, List, length, get_or, ap, subst, arith}
+use Rattle.std.proofs.Common.{List, length, get_or, ap, subst, arith}
 use Rattle.plan.specs.declared.node.Node.{Node}
 use Rattle.plan.specs.declared.node.Node.TheVariants.{Step}
 use Rattle.plan.specs.declared.node.Direction.TheVariants.{Backward}

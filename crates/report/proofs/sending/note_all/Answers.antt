@@ -1,4 +1,4 @@
-use Rattle.std.proofs.Common.{length, get_or, ℤ, None, Option, ap, ◌∙◌, arith}
+use Rattle.std.proofs.Common.{get_or, ℤ, None, Option, ap, ◌∙◌, arith}
 use Rattle.plan.specs.declared.node.Node.TheVariants.{Step}
 use Rattle.plan.specs.declared.statement.Statement.TheVariants.{Idle}
 use Rattle.report.specs.Sending.{sent_of, unknown_four}

@@ -1,4 +1,4 @@
-use Rattle.std.proofs.Common.{ℕ, true, false, arith}
+use Rattle.std.proofs.Common.{true, false, arith}
 use Rattle.std.proofs.lemmas.Bool.{eq-eqb, ne_eqb}
 use Rattle.report.specs.Listing.{listed_in}
 use Rattle.report.proofs.Lines.{count_le, count_with}

@@ -1,4 +1,4 @@
-use Rattle.std.proofs.Common.{◌≡◌, arith}
+use Rattle.std.proofs.Common.{arith}
 use Rattle.report.proofs.Putting.{put_part}
 use Rattle.report.proofs.text.put.Goals as goal
 

@@ -1,5 +1,5 @@
-use Rattle.std.proofs.Common.{◌≡◌, ℕ, ◌+◌, ◌≤◌, cond, List, [], ◌++◌, length, codes, decimal, sym, subst}
-use Rattle.report.specs.Reported.{send_line, lines_of}
+use Rattle.std.proofs.Common.{ℕ, ◌+◌, ◌≤◌, cond, List, [], ◌++◌, length, codes, decimal, sym, subst}
+use Rattle.report.specs.Reported.{send_line}
 use Rattle.report.proofs.Lines.{line_end, node_parts}
 use Rattle.report.proofs.Putting.{put_then, put_as, room_first, room_then}
 use Rattle.report.proofs.text.put_node.Goals as goal

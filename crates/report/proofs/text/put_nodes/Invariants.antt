@@ -1,4 +1,3 @@
-use Rattle.std.proofs.Common.{length}
 use Rattle.report.specs.Putting.{Put}
 use Rattle.report.specs.Reported.{lines_to, findings_in}
 use Rattle.report.proofs.text.put_nodes.Given as goal

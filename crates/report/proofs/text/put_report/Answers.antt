@@ -1,4 +1,4 @@
-use Rattle.std.proofs.Common.{◌≡◌, ℕ, ◌+◌, ◌≤◌, List, ◌++◌, length, Option, sym, ap, ◌∙◌, subst, ap₂, zero-add, arith}
+use Rattle.std.proofs.Common.{◌≡◌, ℕ, ◌+◌, ◌≤◌, List, ◌++◌, length, sym, ap, ◌∙◌, subst, ap₂, zero-add, arith}
 use Rattle.report.specs.Listing.{listed_in}
 use Rattle.report.specs.Reported.{Findings, lines_to, count_to, total_line, report_text, findings_in}
 use Rattle.report.proofs.Putting.{put_then, put_as, room_first, room_then}

@@ -1,4 +1,4 @@
-use Rattle.std.proofs.Common.{◌≡◌, ◌+◌, ◌≤◌, Bool, cond, [], ◌++◌, length, decimal, sym, ap, subst}
+use Rattle.std.proofs.Common.{◌+◌, ◌≤◌, Bool, cond, [], ◌++◌, length, decimal, sym, subst}
 use Rattle.std.proofs.lemmas.Bool.{cond-true}
 use Rattle.report.proofs.Putting.{put_then, put_as, room_first, room_then}
 use Rattle.report.proofs.text.put_words.Goals as goal

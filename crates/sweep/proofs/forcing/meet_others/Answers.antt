@@ -1,4 +1,4 @@
-use Rattle.std.proofs.Common.{◌≡◌, ℕ, ◌+◌, ◌-◌, ◌≤◌, List, length, take, drop, sym, ap, ◌∙◌, arith, length-drop, take_all}
+use Rattle.std.proofs.Common.{◌≡◌, ℕ, ◌+◌, ◌-◌, length, drop, sym, ap, ◌∙◌, arith, length-drop, take_all}
 use Rattle.kinds.specs.Effects.{passing}
 use Rattle.sweep.specs.Valuing.{met_of, met_but}
 use Rattle.sweep.proofs.Meets.{met_past, but_first, but_more}

@@ -1,6 +1,5 @@
-use Rattle.std.proofs.Common.{◌≡◌, ℕ, ◌<◌, List, length, get_or, set, sym, ap, ◌∙◌, subst, ap₂, arith, rules}
+use Rattle.std.proofs.Common.{◌≡◌, ℕ, set, ap, ◌∙◌, ap₂, arith, rules}
 use Rattle.std.proofs.lemmas.List.{get_or_read}
-use Rattle.kinds.specs.declared.effect.Effect.{Effect}
 use Rattle.kinds.specs.Effects.{followed, either_way}
 use Rattle.plan.specs.Stored.{seen}
 use Rattle.sweep.specs.Slots.{slot}

@@ -1,4 +1,3 @@
-use Rattle.std.proofs.Common.{◌∙◌, rules}
 use Rattle.plan.specs.Stored.{seen}
 use Rattle.sweep.proofs.Turns.{lowering_same, lowering_then}
 use Rattle.sweep.proofs.lowering.settle.Goals as goal

@@ -1,4 +1,4 @@
-use Rattle.std.proofs.Common.{◌≡◌, ℕ, ◌+◌, ◌-◌, ◌<◌, List, length, get_or, Some, None, Option, sym, refl, ap, ◌∙◌, arith}
+use Rattle.std.proofs.Common.{◌≡◌, ◌-◌, List, get_or, Some, None, Option, sym, refl, ap, ◌∙◌, arith}
 use Rattle.plan.specs.declared.node.Ends.{Ends}
 use Rattle.plan.specs.Stored.{seen}
 use Rattle.plan.proofs.Opened.{opened}

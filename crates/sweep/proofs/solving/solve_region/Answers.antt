@@ -1,4 +1,4 @@
-use Rattle.std.proofs.Common.{◌≡◌, ◌<◌, length, sym, refl, ap, ◌∙◌, ap₂, arith, length-set, get_or-set_other, rules}
+use Rattle.std.proofs.Common.{◌≡◌, ◌<◌, length, sym, ap, ◌∙◌, ap₂, arith, length-set, get_or-set_other, rules}
 use Rattle.std.proofs.lemmas.List.{get_or_read}
 use Rattle.plan.specs.Stored.{seen}
 use Rattle.plan.proofs.Opened.{opened}

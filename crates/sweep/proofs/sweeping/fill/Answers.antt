@@ -1,4 +1,3 @@
-use Rattle.std.proofs.Common.{◌≡◌}
 use Rattle.plan.specs.Stored.{seen}
 use Rattle.plan.proofs.Opened.{opened}
 use Rattle.runs.specs.Actions.{steps_of}

@@ -1,4 +1,4 @@
-use Rattle.std.proofs.Common.{◌<◌, length, ap, arith}
+use Rattle.std.proofs.Common.{length, ap, arith}
 use Rattle.plan.specs.Stored.{seen}
 use Rattle.plan.proofs.Opened.{opened}
 use Rattle.sweep.proofs.Owners.{some_owner, branch_owned}

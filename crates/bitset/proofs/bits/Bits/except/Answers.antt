@@ -1,4 +1,4 @@
-use Rattle.std.proofs.Common.{◌≡◌, ℕ, ◌^◌, ◌<◌, not, ap, ◌∙◌, arith}
+use Rattle.std.proofs.Common.{ℕ, not, ap, ◌∙◌}
 use Rattle.bitset.specs.Bits.{bit}
 use Rattle.bitset.proofs.Digits.{from_bits, bit_turned}
 use Rattle.bitset.proofs.bits.Bits.except.Goals as goal

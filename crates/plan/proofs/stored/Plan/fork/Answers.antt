@@ -1,4 +1,4 @@
-use Rattle.std.proofs.Common.{length, refl, sym, subst, arith, rules}
+use Rattle.std.proofs.Common.{refl, sym, subst, arith, rules}
 use mathlib.Core.Logic.{∥∥₁_map}
 use Rattle.plan.specs.declared.node.Node.TheVariants.{Fork}
 use Rattle.plan.specs.Stored.{seen}

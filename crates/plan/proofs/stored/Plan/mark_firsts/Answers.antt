@@ -1,4 +1,4 @@
-use Rattle.std.proofs.Common.{◌≡◌, ◌+◌, Bool, List, length, get_or, None, Option, sym, ap, ◌∙◌, subst, arith}
+use Rattle.std.proofs.Common.{◌+◌, Bool, List, length, get_or, None, Option, sym, ap, ◌∙◌, subst, arith}
 use Rattle.plan.specs.declared.node.Ends.{Ends}
 use Rattle.plan.specs.Marks.{Grown, FirstsTo}
 use Rattle.plan.specs.Stored.{seen}
