@@ -2,7 +2,7 @@
 use Rattle.std.specs.Prelude.{◌≡◌, ℕ, ◌<◌, List, [], ◌∷◌, ◌++◌, length}
 use Rattle.plan.specs.declared.call.Call.{Call}
 use Rattle.plan.specs.declared.node.Direction.{Direction}
-use Rattle.plan.specs.Drawn.{Drawn, node_at, region_of, Sound}
+use Rattle.plan.specs.Drawn.{Drawn, node_at, region_of, Ranged, Sound}
 use Rattle.plan.specs.Calls.{drawn}
 use Rattle.plan.specs.Paths.{Whole}
 use Rattle.kinds.specs.declared.effect.Effect.{Effect}
@@ -50,7 +50,15 @@ PremisesMet {V} a = Sound sample × Whole sample × ((d : Direction) (start : V)
 abbrev pub RowsSound : Type 0
 RowsSound = (row : List Call) → Sound (drawn row)
 
+-- and one whose steps name variables and probes that there are
+abbrev pub RowsRanged : Type 0
+RowsRanged = (row : List Call) → Ranged (drawn row)
+
 -- an approach is a beginning of a full word, and a beginning that ends in a step is, without it, an approach to the step
 abbrev pub Beginnings : Type 0
 Beginnings = (p : Drawn) (d : Direction) → Sound p → Whole p → (r n : ℕ) (u : List ℕ)
     → (r < length p.ends → Approach p d r n u → Beginning p d r u) × (Beginning p d r (u ++ (n ∷ [])) → Approach p d r n u)
+
+-- an approach is a beginning of a full word, whatever the number of its region
+abbrev pub ApproachesBegin : Type 0
+ApproachesBegin = (p : Drawn) (d : Direction) → Sound p → Whole p → (r n : ℕ) (u : List ℕ) → Approach p d r n u → Beginning p d r u

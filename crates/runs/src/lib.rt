@@ -1,7 +1,7 @@
 // What the runs of a plan do to facts. Each function here states theorems, for any kind of fact, and does nothing.
 #![tactic(auto)]
 
-ghost use Rattle.runs.specs.Theorems.{NodesExact, RegionsExact, ValuesExact, SolutionsAgree, PremisesMet, RowsSound, Beginnings};
+ghost use Rattle.runs.specs.Theorems.{NodesExact, RegionsExact, ValuesExact, SolutionsAgree, PremisesMet, RowsSound, RowsRanged, Beginnings, ApproachesBegin};
 
 use kinds::kind::Kind;
 
@@ -13,13 +13,15 @@ pub fn exact<K: Kind>(kind: &K)
     ensures alike { SolutionsAgree (K.Kind.algebra kind.now) }
 {}
 
-// What `exact` asks for can be had, and every row of calls draws a plan that is sound.
+// What `exact` asks for can be had, and every row of calls draws a plan that is sound, with operands in range.
 pub fn premises_met<K: Kind>(kind: &K)
     ensures sample { PremisesMet (K.Kind.algebra kind.now) }
     ensures sound { RowsSound }
+    ensures ranged { RowsRanged }
 {}
 
 // What has run when a node is reached begins a full word, and what stands before a step of a full word is an approach to it.
 pub fn beginnings()
-    ensures { Beginnings }
+    ensures both { Beginnings }
+    ensures approaches { ApproachesBegin }
 {}
