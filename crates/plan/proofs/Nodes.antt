@@ -3,9 +3,15 @@ use Rattle.std.proofs.Common.{◌≡◌, ℕ, zero, suc, ◌+◌, ◌<◌, ◌�
 use lib.Seq.{take-append-le, take-append_seam}
 use Rattle.std.proofs.lemmas.List.{get_or_append_left, get_or_at}
 use Rattle.std.proofs.lemmas.Bool.{cases_eq}
+use Rattle.plan.specs.declared.statement.Statement.TheVariants.{Idle}
 use Rattle.plan.specs.declared.node.Node.{Node}
+use Rattle.plan.specs.declared.node.Node.TheVariants.{Step}
 use Rattle.plan.specs.declared.node.Ends.{Ends}
 use Rattle.plan.specs.Drawn.{branches, width, region_of}
+
+-- a node that is not there reads as this one
+abbrev pub origin : Node
+origin = Step 0 Idle
 
 pub branches-++ : (ns ms : List Node) → branches (ns ++ ms) ≡ branches ns + branches ms
 branches-++ [] ms = sym (zero-add (branches ms))

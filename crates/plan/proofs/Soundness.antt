@@ -3,7 +3,6 @@ use Rattle.std.proofs.Common.{◌≡◌, ℕ, suc, ◌+◌, ◌<◌, Bool, true,
 use lib.ListN.{length-replicate}
 use Rattle.std.proofs.lemmas.Bool.{cases_eq, true≢false, leb-false, eqb-true, not-false, or_parts}
 use Rattle.plan.specs.declared.statement.Statement.{Statement}
-use Rattle.plan.specs.declared.statement.Statement.TheVariants.{Idle}
 use Rattle.plan.specs.declared.node.Node.{Node}
 use Rattle.plan.specs.declared.node.Node.TheVariants as node
 use Rattle.plan.specs.declared.node.Ends as declared
@@ -14,11 +13,7 @@ use Rattle.plan.specs.declared.call.Call.TheVariants.{Lay, Fork, Arc, Ends, Chan
 use Rattle.plan.specs.Drawn.{Drawn, blank, node_at, region_of, width, branches, Lies, Joins, Sound}
 use Rattle.plan.specs.Calls.{accepted, is_fork, no_region, no_node, outside, has_arc, kept_if, after, after_all, drawn}
 use Rattle.plan.specs.Statements.{in_range}
-use Rattle.plan.proofs.Nodes.{branches-++, pushed, in_pushed, region_replaced, in_replaced, branches_replaced, branches_set, getD_copies, ends_more}
-
--- a node that is not there reads as this one
-abbrev origin : Node
-origin = node.Step 0 Idle
+use Rattle.plan.proofs.Nodes.{origin, branches-++, pushed, in_pushed, region_replaced, in_replaced, branches_replaced, branches_set, getD_copies, ends_more}
 
 no_fork : (r f b k : ℕ) (st : Statement) → node.Step r st ≡ node.Fork f b k → ⊥
 no_fork r f b k st e = let z : ◌≡◌ {A = ℕ} 0 1 = cc in omega arith
@@ -137,37 +132,37 @@ module _ (p : Drawn) (s : Sound p) where
           s.forked m r b k l (sym (get_or-set_other p.nodes n m (changed p n st) origin other) ∙ is) ∙ ap suc (sym (branches_replaced p.nodes n (changed p n st) origin h narrow m))
 
 -- a test that holds refuses the call, and the plan stays as it was
-pub unless_refused : (P : Drawn → Type 0) (p q : Drawn) (b : Bool) (e : Refusal) (o : Option Refusal) → P p → (b ≡ false → P (kept_if o p q)) → P (kept_if (cond b (Some e) o) p q)
-unless_refused P p q true e o s more = s
-unless_refused P p q false e o s more = more refl
+unless_refused : (p q : Drawn) (b : Bool) (e : Refusal) (o : Option Refusal) → Sound p → (b ≡ false → Sound (kept_if o p q)) → Sound (kept_if (cond b (Some e) o) p q)
+unless_refused p q true e o s more = s
+unless_refused p q false e o s more = more refl
 
 pub after_sound : (p : Drawn) (c : Call) → Sound p → Sound (after p c)
 after_sound p (Lay r st) s =
-    unless_refused Sound p _ (no_region p r) _ _ s (λ there.
-    unless_refused Sound p _ (not (in_range st)) _ _ s (λ range.
-    unless_refused Sound p _ (leb 256 (length p.nodes)) _ _ s (λ room. lay_sound p s r st (leb-false _ _ there))))
+    unless_refused p _ (no_region p r) _ _ s (λ there.
+    unless_refused p _ (not (in_range st)) _ _ s (λ range.
+    unless_refused p _ (leb 256 (length p.nodes)) _ _ s (λ room. lay_sound p s r st (leb-false _ _ there))))
 after_sound p (Fork r k) s =
-    unless_refused Sound p _ (no_region p r) _ _ s (λ there.
-    unless_refused Sound p _ (ltb k 2 || ltb 8 k) _ _ s (λ count.
-    unless_refused Sound p _ (leb 256 (length p.nodes) || ltb 64 (length p.ends + k)) _ _ s (λ room. fork_sound p s r k (leb-false _ _ there))))
+    unless_refused p _ (no_region p r) _ _ s (λ there.
+    unless_refused p _ (ltb k 2 || ltb 8 k) _ _ s (λ count.
+    unless_refused p _ (leb 256 (length p.nodes) || ltb 64 (length p.ends + k)) _ _ s (λ room. fork_sound p s r k (leb-false _ _ there))))
 after_sound p (Arc m n) s =
-    unless_refused Sound p _ (no_node p m || no_node p n) _ _ s (λ there.
-    unless_refused Sound p _ (outside p (region_of (node_at p m)) n) _ _ s (λ inside.
-    unless_refused Sound p _ (has_arc m n p.arcs) _ _ s (λ fresh.
-    unless_refused Sound p _ (leb 1024 (length p.arcs)) _ _ s (λ room.
+    unless_refused p _ (no_node p m || no_node p n) _ _ s (λ there.
+    unless_refused p _ (outside p (region_of (node_at p m)) n) _ _ s (λ inside.
+    unless_refused p _ (has_arc m n p.arcs) _ _ s (λ fresh.
+    unless_refused p _ (leb 1024 (length p.arcs)) _ _ s (λ room.
     let both = or_parts _ _ there in
     arc_sound p s m n (leb-false _ _ both.0, leb-false _ _ both.1, sym (eqb-true _ _ (not-false _ inside)))))))
 after_sound p (Ends r f l) s =
-    unless_refused Sound p _ (no_region p r || (no_node p f || no_node p l)) _ _ s (λ there.
-    unless_refused Sound p _ (outside p r f || outside p r l) _ _ s (λ inside.
+    unless_refused p _ (no_region p r || (no_node p f || no_node p l)) _ _ s (λ there.
+    unless_refused p _ (outside p r f || outside p r l) _ _ s (λ inside.
     let all = or_parts _ _ there in
     let nodes = or_parts _ _ all.1 in
     let both = or_parts _ _ inside in
     ends_sound p s r f l (leb-false _ _ all.0) (leb-false _ _ nodes.0, eqb-true _ _ (not-false _ both.0)) (leb-false _ _ nodes.1, eqb-true _ _ (not-false _ both.1))))
 after_sound p (Change n st) s =
-    unless_refused Sound p _ (no_node p n) _ _ s (λ there.
-    unless_refused Sound p _ (not (in_range st)) _ _ s (λ range.
-    unless_refused Sound p _ (is_fork (node_at p n)) _ _ s (λ step. change_sound p s n st (leb-false _ _ there) step)))
+    unless_refused p _ (no_node p n) _ _ s (λ there.
+    unless_refused p _ (not (in_range st)) _ _ s (λ range.
+    unless_refused p _ (is_fork (node_at p n)) _ _ s (λ step. change_sound p s n st (leb-false _ _ there) step)))
 
 -- what every call keeps holds after any row of calls
 pub after_all_keeps : (P : Drawn → Type 0) → ((p : Drawn) (c : Call) → P p → P (after p c)) → (p : Drawn) (cs : List Call) → P p → P (after_all p cs)

@@ -17,7 +17,7 @@ use Rattle.runs.specs.Runs.{Run}
 use Rattle.sweep.specs.Swept.{ValuesMeet}
 use Rattle.report.specs.Fixing.{number_of, FixedTo, Fits32}
 use Rattle.report.specs.Listing.{Filled}
-use Rattle.report.specs.Sending.{sent_by, Four, four_from, unfixed_four, unknown_four, one_of, noted, sent_of, SendsBelow, SentBelow}
+use Rattle.report.specs.Sending.{sent_by, Four, four_from, unknown_four, one_of, noted, sent_of, SendsBelow, SentBelow}
 use Rattle.report.proofs.LastValue.{meet_set, number_some}
 use Rattle.report.proofs.Pairs.{left_meet, right_meet}
 use Rattle.report.proofs.Reached.{run_some}
@@ -35,6 +35,10 @@ sent_step (Step r (Sub u a b)) v e = absurd (clash (ap is_some e))
 sent_step (Step r (Min u a b)) v e = absurd (clash (ap is_some e))
 sent_step (Step r (Max u a b)) v e = absurd (clash (ap is_some e))
 sent_step (Fork r b k) v e = absurd (clash (ap is_some e))
+
+-- nothing is known of the four at the start
+abbrev pub unfixed_four : Four
+unfixed_four = record { left = record { left = Unfixed; right = Unfixed }; right = record { left = Unfixed; right = Unfixed } }
 
 -- each of the four is found as it would be alone
 one_meets : (p : Drawn) (first i : ℕ) → i < 4 → {member : List ℕ → Type 0} {x : Four} → IsMeet (four (four_from first)) member (λ w. run (four (four_from first)) (steps_of (four (four_from first)) p) w unfixed_four) x

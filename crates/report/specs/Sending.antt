@@ -13,7 +13,7 @@ use Rattle.plan.specs.declared.node.Node.TheVariants.{Step, Fork}
 use Rattle.plan.specs.Drawn.{Drawn, node_at}
 use Rattle.pairs.specs.declared.both.Both.{Both}
 use Rattle.facts.specs.declared.constant.Constant.{Constant}
-use Rattle.facts.specs.declared.constant.Constant.TheVariants.{Unknown, Unfixed}
+use Rattle.facts.specs.declared.constant.Constant.TheVariants.{Unknown}
 use Rattle.facts.specs.declared.fixed.Fixed as declared
 use Rattle.pairs.specs.declared.pair.Pair.{Pair}
 use Rattle.report.specs.Fixing.{number_of, FixedTo, Fits32}
@@ -42,9 +42,6 @@ four_from v = record {
   left = record { left = record { variable = v }; right = record { variable = v + 1 } };
   right = record { left = record { variable = v + 2 }; right = record { variable = v + 3 } };
 }
-
-abbrev pub unfixed_four : Four
-unfixed_four = record { left = record { left = Unfixed; right = Unfixed }; right = record { left = Unfixed; right = Unfixed } }
 
 abbrev pub unknown_four : Four
 unknown_four = record { left = record { left = Unknown; right = Unknown }; right = record { left = Unknown; right = Unknown } }

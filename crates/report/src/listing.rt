@@ -6,6 +6,7 @@ ghost use Rattle.plan.specs.Stored.{seen};
 ghost use Rattle.bitset.specs.Bits.{every as every_bit};
 ghost use Rattle.expressions.specs.Expressions.{listed, computed_by};
 ghost use Rattle.report.specs.Listing.{flag, Filled, bit_of, ListsRedundant, Refused};
+ghost use Rattle.report.specs.Strikes.{StrikeLaw};
 ghost use Rattle.report.specs.Unread.{bit_among, assigned_by, ListsDead, DeadRefused};
 
 use crate::finding::find_bits;
@@ -47,7 +48,8 @@ fn mark_available(nodes: &[Node], expressions: &Expressions, values: &[Bits], ou
 
 // Writes a byte for each node: 1 where the step computes an expression that is available before it on every run, else 0.
 pub fn redundant(plan: &Plan, out: &mut [u8]) -> Result<(), Refusal>
-    ensures { MatchResult result
+    ensures law { StrikeLaw }
+    ensures list { MatchResult result
         (λ _. ListsRedundant (seen plan.now) out.old out.new)
         (λ e. Refused (seen plan.now) (length (seen plan.now).nodes) (length out.old) e × (out.new ≡ out.old)) }
 {

@@ -22,6 +22,6 @@ pub fn premises_met<K: Kind>(kind: &K)
 
 // What has run when a node is reached begins a full word, and what stands before a step of a full word is an approach to it.
 pub fn beginnings()
-    ensures both { Beginnings }
+    ensures words { Beginnings }
     ensures approaches { ApproachesBegin }
 {}

@@ -1,5 +1,5 @@
 // The plan of the examples swept in both directions, with what stands at every node.
-use crate::examples::draw;
+use crate::swept::{available, dead, draw, fixed};
 use bitset::bits::Bits;
 use expressions::numbering::number;
 use facts::available::Available;
@@ -16,38 +16,6 @@ use plan::stored::Plan;
 use std::test::Fail;
 use sweep::sweeping::sweep;
 
-// One bit of each value.
-fn bits(values: [Bits; 6], place: usize) -> [bool; 6] {
-    [
-        values[0].bit(place),
-        values[1].bit(place),
-        values[2].bit(place),
-        values[3].bit(place),
-        values[4].bit(place),
-        values[5].bit(place),
-    ]
-}
-
-// Whether the probe's reading is available at each node, if it is not at the start.
-fn available(plan: &Plan, direction: Direction) -> Result<[bool; 6], Fail> {
-    let kind = Bitwise(Available {
-        expressions: number(plan.nodes())?,
-    });
-    let mut values = [Bits::every(); 6];
-    let mut effects = [passing(&kind); 6];
-    let mut regions = [passing(&kind); 3];
-    sweep(
-        plan,
-        &kind,
-        direction,
-        Bits::none(),
-        &mut values,
-        &mut effects,
-        &mut regions,
-    )?;
-    Ok(bits(values, 0))
-}
-
 // Forward, nodes 3 and 4 read the probe. A run reaches node 5 without them, and one reaches node 3 with no reading before.
 // A wait at node 5 comes after them in some run to node 2, and after node 3 in some run to node 4.
 // Backward, node 2 reads first, so that all is available but at node 2 itself. A wait at node 5 disturbs it in some run
@@ -63,29 +31,6 @@ fn a_reading_is_available_either_way(rt: HostRuntime) -> Result<(), Fail> {
     assert!(rt; available(&idle, backward)? == [true, true, false, true, true, true]);
     assert!(rt; available(&wait, backward)? == [false, true, false, false, false, true]);
     Ok(())
-}
-
-// Whether a variable is dead at each node, where `start` tells what is dead at the start.
-fn dead(
-    plan: &Plan,
-    direction: Direction,
-    start: Bits,
-    variable: usize,
-) -> Result<[bool; 6], Fail> {
-    let kind = Bitwise(Dead {});
-    let mut values = [Bits::none(); 6];
-    let mut effects = [passing(&kind); 6];
-    let mut regions = [passing(&kind); 3];
-    sweep(
-        plan,
-        &kind,
-        direction,
-        start,
-        &mut values,
-        &mut effects,
-        &mut regions,
-    )?;
-    Ok(bits(values, variable))
 }
 
 // Backward with nothing kept, all is dead at the start. Variable 0 is assigned by node 3 alone, so if it is kept it is
@@ -108,24 +53,6 @@ fn what_is_kept_is_not_dead_either_way(rt: HostRuntime) -> Result<(), Fail> {
     Ok(())
 }
 
-// The value of variable 2 at each node, where it is 1 at the start.
-fn fixed(plan: &Plan, direction: Direction) -> Result<[Constant; 6], Fail> {
-    let kind = Fixed { variable: 2 };
-    let mut values = [Constant::Unfixed; 6];
-    let mut effects = [passing(&kind); 6];
-    let mut regions = [passing(&kind); 3];
-    sweep(
-        plan,
-        &kind,
-        direction,
-        Constant::Number(1),
-        &mut values,
-        &mut effects,
-        &mut regions,
-    )?;
-    Ok(values)
-}
-
 // Node 0 sets variable 2 to -4, and node 5 may set it to 10.
 // Forward, node 5 is in every run to node 2, and in some of those to nodes 3 and 4. Backward it is in every run to
 // node 0, and in some of those to nodes 4 and 3; elsewhere the variable is as at the start, as node 0 is in no run.
@@ -138,11 +65,11 @@ fn a_set_beside_unfixes_a_variable_either_way(rt: HostRuntime) -> Result<(), Fai
     let idle = draw(&rt, Statement::Idle, Statement::Send(2))?;
     let set = draw(&rt, Statement::Set(2, 10), Statement::Send(2))?;
     let forward = Direction::Forward;
-    assert!(rt; fixed(&idle, forward)? == [one, low, low, low, low, low]);
-    assert!(rt; fixed(&set, forward)? == [one, low, high, unfixed, unfixed, low]);
+    assert!(rt; fixed(&idle, forward, one)? == [one, low, low, low, low, low]);
+    assert!(rt; fixed(&set, forward, one)? == [one, low, high, unfixed, unfixed, low]);
     let backward = Direction::Backward;
-    assert!(rt; fixed(&idle, backward)? == [one; 6]);
-    assert!(rt; fixed(&set, backward)? == [high, one, one, unfixed, unfixed, one]);
+    assert!(rt; fixed(&idle, backward, one)? == [one; 6]);
+    assert!(rt; fixed(&set, backward, one)? == [high, one, one, unfixed, unfixed, one]);
     Ok(())
 }
 

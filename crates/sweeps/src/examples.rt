@@ -1,10 +1,8 @@
-// A set threshold; a fork, with two readings of one probe in its first branch and one step in its second; then a last step.
+// Sweeps of the plan in one direction for each kind, and sweeps that are refused.
+use crate::swept;
+use crate::swept::draw;
 use bitset::bits::Bits;
-use expressions::numbering::number;
-use facts::available::Available;
-use facts::bitwise::Bitwise;
 use facts::constant::Constant;
-use facts::dead::Dead;
 use facts::fixed::Fixed;
 use kinds::effects::passing;
 use pairs::both::Both;
@@ -16,41 +14,10 @@ use refusals::refusal::Refusal;
 use std::test::Fail;
 use sweep::sweeping::sweep;
 
-pub(crate) fn draw(rt: &HostRuntime, beside: Statement, last: Statement) -> Result<Plan, Fail> {
-    let mut plan = Plan::new(rt.alloc())?;
-    plan.lay(0, Statement::Set(2, -4))?;
-    plan.fork(0, 2)?;
-    plan.lay(0, last)?;
-    plan.arc(0, 1)?;
-    plan.arc(1, 2)?;
-    plan.ends(0, 0, 2)?;
-    plan.lay(1, Statement::Probe(0, 3))?;
-    plan.lay(1, Statement::Probe(1, 3))?;
-    plan.arc(3, 4)?;
-    plan.ends(1, 3, 4)?;
-    plan.lay(2, beside)?;
-    plan.ends(2, 5, 5)?;
-    Ok(plan)
-}
-
 // Whether the plan's first expression is available before nodes 2, 3 and 4.
 fn available(plan: &Plan) -> Result<[bool; 3], Fail> {
-    let kind = Bitwise(Available {
-        expressions: number(plan.nodes())?,
-    });
-    let mut values = [Bits::every(); 6];
-    let mut effects = [passing(&kind); 6];
-    let mut regions = [passing(&kind); 3];
-    sweep(
-        plan,
-        &kind,
-        Direction::Forward,
-        Bits::none(),
-        &mut values,
-        &mut effects,
-        &mut regions,
-    )?;
-    Ok([values[2].bit(0), values[3].bit(0), values[4].bit(0)])
+    let nodes = swept::available(plan, Direction::Forward)?;
+    Ok([nodes[2], nodes[3], nodes[4]])
 }
 
 #[test]
@@ -64,20 +31,9 @@ fn a_reading_is_available_unless_the_other_branch_waits(rt: HostRuntime) -> Resu
 
 // Whether variables 0 and 1 are dead behind nodes 3 and 4, where `start` tells what is dead at the end.
 fn dead(plan: &Plan, start: Bits) -> Result<[bool; 2], Fail> {
-    let kind = Bitwise(Dead {});
-    let mut values = [Bits::none(); 6];
-    let mut effects = [passing(&kind); 6];
-    let mut regions = [passing(&kind); 3];
-    sweep(
-        plan,
-        &kind,
-        Direction::Backward,
-        start,
-        &mut values,
-        &mut effects,
-        &mut regions,
-    )?;
-    Ok([values[3].bit(0), values[4].bit(1)])
+    let first = swept::dead(plan, Direction::Backward, start, 0)?;
+    let second = swept::dead(plan, Direction::Backward, start, 1)?;
+    Ok([first[3], second[4]])
 }
 
 #[test]
@@ -92,20 +48,8 @@ fn what_is_kept_is_not_dead(rt: HostRuntime) -> Result<(), Fail> {
 
 // The value of variable 2 before nodes 2 and 3.
 fn fixed(plan: &Plan) -> Result<(Constant, Constant), Fail> {
-    let kind = Fixed { variable: 2 };
-    let mut values = [Constant::Unfixed; 6];
-    let mut effects = [passing(&kind); 6];
-    let mut regions = [passing(&kind); 3];
-    sweep(
-        plan,
-        &kind,
-        Direction::Forward,
-        Constant::Unfixed,
-        &mut values,
-        &mut effects,
-        &mut regions,
-    )?;
-    Ok((values[2], values[3]))
+    let nodes = swept::fixed(plan, Direction::Forward, Constant::Unfixed)?;
+    Ok((nodes[2], nodes[3]))
 }
 
 #[test]

@@ -5,3 +5,5 @@
 mod both_ways;
 #[cfg(test)]
 mod examples;
+#[cfg(test)]
+mod swept;

@@ -5,6 +5,6 @@ use Rattle.runs.proofs.beginnings.Goals as goal
 
 pub returns : goal.returns
 returns c = record {
-  both = λ p d sound whole r n u. (λ within x. approach_beginning (fit p sound whole d) x, beginning_approach r n u);
+  words = λ p d sound whole r n u. (λ within x. approach_beginning (fit p sound whole d) x, beginning_approach r n u);
   approaches = λ p d sound whole r n u. approach_beginning (fit p sound whole d);
 }

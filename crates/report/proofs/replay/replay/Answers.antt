@@ -20,7 +20,7 @@ returns g c =
     × ((c.sweep-swept.new.values ≡ c.args.values.now) × (c.sweep-swept.new.effects ≡ c.args.effects.now) × (c.sweep-swept.new.regions ≡ c.args.regions.now)))) is c.sweep-swept.ensures.swept in
     let listed = subst (λ (q : Drawn). MatchResult c.redundant-listed.result
     (λ _. ListsRedundant q c.args.list.now c.redundant-listed.new.out)
-    (λ e. Refused q (length q.nodes) (length c.args.list.now) e × (c.redundant-listed.new.out ≡ c.args.list.now))) is c.redundant-listed.ensures in
+    (λ e. Refused q (length q.nodes) (length c.args.list.now) e × (c.redundant-listed.new.out ≡ c.args.list.now))) is c.redundant-listed.ensures.list in
     record {
       promise = promised a p c.args.direction c.args.start c.args.values.now c.sweep-swept.new.values c.args.effects.now c.sweep-swept.new.effects c.args.regions.now c.sweep-swept.new.regions
           c.sweep-swept.result c.redundant-listed.result c.args.list.now c.redundant-listed.new.out _ _ swept listed;

@@ -14,7 +14,7 @@ taken bytes k n is small long = length-take-le k bytes (omega (arith, is, small,
 pub put_report-requires : goal.put_report-requires
 put_report-requires c =
     let p = seen c.args.plan.now in
-    let listed = c.in_ok-redundant.ensures in
+    let listed = c.in_ok-redundant.ensures.list in
     let unread = c.in_ok-dead.ensures in
     let small : length p.nodes ≤ 256 = c.args.plan.now.small.0 in
     let all : length c.nodes-nodes.result.now - 0 ≡ length p.nodes = omega (arith, ap length c.nodes-nodes.ensures) in
@@ -28,7 +28,7 @@ put_report-requires c =
 pub returns : goal.returns
 returns c =
     let p = seen c.args.plan.now in
-    let listed = c.in_ok-redundant.ensures in
+    let listed = c.in_ok-redundant.ensures.list in
     let unread = c.in_ok-dead.ensures in
     let small : length p.nodes ≤ 256 = c.args.plan.now.small.0 in
     let all : length c.nodes-nodes.result.now - 0 ≡ length p.nodes = omega (arith, ap length c.nodes-nodes.ensures) in

@@ -10,8 +10,8 @@ use Rattle.pairs.specs.declared.pair.Pair.{Pair}
 use Rattle.facts.specs.Four.{four}
 use Rattle.sweep.specs.Swept.{ValuesMeet}
 use Rattle.report.specs.Listing.{Filled}
-use Rattle.report.specs.Sending.{sent_of, unfixed_four, unknown_four}
-use Rattle.report.proofs.SentValues.{sent_below}
+use Rattle.report.specs.Sending.{sent_of, unknown_four}
+use Rattle.report.proofs.SentValues.{unfixed_four, sent_below}
 use Rattle.report.proofs.sending.find_four.Goals as goal
 
 pub returns : goal.returns
