@@ -1,12 +1,12 @@
 -- The bits of numbers: of sums of digits, of `&`, `|` and the complement, and that numbers with equal bits are equal.
-use Rattle.std.proofs.Common.{◌≡◌, ℕ, zero, suc, ◌+◌, ◌-◌, ◌*◌, ◌/◌, ◌%◌, ◌^◌, ◌<◌, ◌≤◌, min, max, Bool, true, false, cond, not, ◌&&◌, ◌||◌, eqb, Decides, sym, refl, ap, ◌∙◌, pow-suc, arith}
+use Rattle.std.proofs.Common.{◌≡◌, ℕ, zero, suc, ◌+◌, ◌-◌, ◌*◌, ◌/◌, ◌%◌, ◌^◌, ◌<◌, ◌≤◌, min, max, Bool, true, false, cond, not, ◌&&◌, ◌||◌, eqb, sym, refl, ap, ◌∙◌, pow-suc, arith}
 use mathlib.Core.Bool.{and-true}
 use mathlib.Core.HLevel.{is_prop→PathP}
 use native.Mathlib.Bridge.{le_prop}
 use lib.Bits.{bit_and, bit_or, and_step, or_step}
 use Rattle.std.proofs.lemmas.Nat.{shr-shr, one_shl}
 use Rattle.std.proofs.lemmas.Bool.{ne_eqb}
-use Rattle.std.proofs.lemmas.Bool.Decides.{nat_tests, Decides-like}
+use Rattle.std.proofs.lemmas.Bool.Decides.{nat_tests}
 use Rattle.bitset.specs.declared.bits.Bits.{Bits}
 use Rattle.bitset.specs.Bits.{bit, number_from, below_two, bits_from}
 
@@ -116,11 +116,7 @@ same_numbers (suc k) a b p q e =
 pub same_word : (x y : Bits) → x.word ≡ y.word → x ≡ y
 same_word x y e = λ i. record { word = e i; fits = is_prop→PathP (λ i. e i < 2 ^ 64) (λ i. le_prop) x.fits y.fits i }
 
--- a test of two numbers is one of two words
-pub decides_word : (x y : Bits) (r : Bool) → Decides r (x.word ≡ y.word) → Decides r (x ≡ y)
-decides_word x y r = Decides-like r (same_word x y) (ap (λ (w : Bits). w.word))
-
--- and by its bits
+-- a word is told by its bits
 pub same_bits : (x y : Bits) → ((i : ℕ) → i < 64 → bit i x.word ≡ bit i y.word) → x ≡ y
 same_bits x y e = same_word x y (same_numbers 64 x.word y.word x.fits y.fits e)
 

@@ -1,17 +1,25 @@
 -- Words of bits.
 --   bit i n      whether bit i of the number n is 1, counted from the lowest
+--   is_set i x   whether bit i of the word x is 1
+--   ones x       how many bits of the word x are 1
 --   bits_from f  the word whose bit i is f i, for each of its 64 places
 --   every, none  the words of ones and of zeros
 --   both, any    the bits that are 1 in both of two words, and in one of them
 --   turned       every bit turned over
 --   without k    the word with bit k made 0
-use Rattle.std.specs.Prelude.{ℕ, zero, suc, ◌+◌, ◌*◌, ◌/◌, ◌%◌, ◌^◌, ◌<◌, Bool, true, false, cond, not, ◌&&◌, ◌||◌, ◌==◌}
+use Rattle.std.specs.Prelude.{ℕ, zero, suc, ◌+◌, ◌*◌, ◌/◌, ◌%◌, ◌^◌, ◌<◌, Bool, true, false, cond, not, ◌&&◌, ◌||◌, ◌==◌, count_ones}
 use Rattle.std.proofs.Common.{pow-suc, arith}
 use Rattle.bitset.specs.declared.bits.Bits.{Bits}
 
 unfoldable pub bit : ℕ → ℕ → Bool
 bit zero n = n % 2 == 1
 bit (suc i) n = bit i (n / 2)
+
+abbrev pub is_set : ℕ → Bits → Bool
+is_set i x = bit i x.word
+
+abbrev pub ones : Bits → ℕ
+ones x = count_ones x.word
 
 -- the number whose lowest k bits are f 0, f 1 and so on, and whose other bits are 0
 unfoldable pub number_from : ℕ → (ℕ → Bool) → ℕ
@@ -38,13 +46,13 @@ abbrev pub none : Bits
 none = bits_from (λ i. false)
 
 abbrev pub both : Bits → Bits → Bits
-both x y = bits_from (λ i. bit i x.word && bit i y.word)
+both x y = bits_from (λ i. is_set i x && is_set i y)
 
 abbrev pub any : Bits → Bits → Bits
-any x y = bits_from (λ i. bit i x.word || bit i y.word)
+any x y = bits_from (λ i. is_set i x || is_set i y)
 
 abbrev pub turned : Bits → Bits
-turned x = bits_from (λ i. not (bit i x.word))
+turned x = bits_from (λ i. not (is_set i x))
 
 abbrev pub without : ℕ → Bits → Bits
-without k x = bits_from (λ i. bit i x.word && not (i == k))
+without k x = bits_from (λ i. is_set i x && not (i == k))

@@ -1,6 +1,6 @@
 // What is done with words of bits.
 ghost use Rattle.std.specs.Prelude.{◌≡◌, not};
-ghost use Rattle.bitset.specs.Bits.{bit, bits_from, every, none, both, any, turned, without};
+ghost use Rattle.bitset.specs.Bits.{bit, is_set, bits_from, every, none, both, any, turned, without};
 
 use crate::bits::Bits;
 
@@ -30,7 +30,7 @@ impl Bits {
 
     // Whether the bit at a place is 1; past the 64 places none is.
     pub fn bit(self, place: usize) -> bool
-        ensures { result ≡ bit place self.word }
+        ensures { result ≡ is_set place self }
     {
         place < 64 && (self.word >> place) & 1 == 1
     }

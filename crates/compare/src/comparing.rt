@@ -1,44 +1,21 @@
 // Compares the values that the sweep finds with those that the reference lists.
-use crate::tally::Count;
+use crate::tally::Comparisons;
 use kinds::effects::passing;
 use kinds::kind::Kind;
+use plan::conditions::Conditions;
 use plan::node::Direction;
 use plan::stored::Plan;
 use reference::listing::values;
 use reference::unlisted::Unlisted;
-use std::alloc::{AllocError, Global};
+use std::alloc::Global;
 use sweep::sweeping::sweep;
 
-// A buffer of so many equal items.
-fn filled<T: Copy>(heap: Global, item: T, count: usize) -> Result<Vec<T>, AllocError> {
-    let mut items = Vec::new(heap);
-    for _done in 0..count {
-        items.push(item)?;
-    }
-    Ok(items)
-}
-
-// Sweeps the values of the nodes into a buffer.
-fn sweep_into<K: Kind>(
-    heap: Global,
-    plan: &Plan,
-    kind: &K,
-    direction: Direction,
-    start: K::Value,
-    found: &mut [K::Value],
-) -> Result<(), Unlisted> {
-    let mut effects = filled(heap, passing(kind), plan.nodes().len())?;
-    let mut regions = filled(heap, passing(kind), plan.regions().len())?;
-    sweep(
-        plan,
-        kind,
-        direction,
-        start,
-        found,
-        &mut effects,
-        &mut regions,
-    )?;
-    Ok(())
+// A whole plan, with what is known beside it, and the memory to compare it in.
+#[derive(Drop)]
+pub(crate) struct Case<'a> {
+    pub(crate) heap: Global,
+    pub(crate) plan: &'a Plan,
+    pub(crate) conditions: Conditions,
 }
 
 // Counts which values are equal, and which are not the start value.
@@ -47,40 +24,60 @@ fn note_values<K: Kind>(
     start: K::Value,
     listed: &[K::Value],
     found: &[K::Value],
-    count: &mut Count,
+    count: &mut Comparisons,
 ) {
-    for (n, one) in listed.iter().enumerate() {
-        if let Some(other) = found.get(n) {
-            count.note(kind.same(*one, *other), !kind.same(*one, start));
-        }
+    for (one, other) in listed.iter().zip(found) {
+        count.note(kind.same(*one, *other), !kind.same(*one, start));
     }
 }
 
-// Compares the values at every node in a direction, and answers those of the reference.
-pub(crate) fn compare_values<K: Kind>(
-    heap: Global,
-    plan: &Plan,
-    kind: &K,
-    direction: Direction,
-    start: K::Value,
-    count: &mut Count,
-) -> Result<Vec<K::Value>, Unlisted> {
-    let listed = values(heap, plan, kind, direction, start)?;
-    let mut found = filled(heap, kind.top(), plan.nodes().len())?;
-    sweep_into(heap, plan, kind, direction, start, &mut found)?;
-    note_values(kind, start, &listed, &found, count);
-    Ok(listed)
-}
+impl Case<'_> {
+    // The values of the nodes, as the sweep finds them.
+    fn swept<K: Kind>(
+        &self,
+        kind: &K,
+        direction: Direction,
+        start: K::Value,
+    ) -> Result<Vec<K::Value>, Unlisted> {
+        let nodes = self.plan.nodes().len();
+        let mut found = vec![in self.heap; kind.top(); nodes]?;
+        let mut effects = vec![in self.heap; passing(kind); nodes]?;
+        let mut regions = vec![in self.heap; passing(kind); self.plan.regions().len()]?;
+        sweep(
+            self.plan,
+            kind,
+            direction,
+            start,
+            &mut found,
+            &mut effects,
+            &mut regions,
+        )?;
+        Ok(found)
+    }
 
-// Compares the values at every node in both directions.
-pub(crate) fn compare_both_ways<K: Kind>(
-    heap: Global,
-    plan: &Plan,
-    kind: &K,
-    start: K::Value,
-    count: &mut Count,
-) -> Result<(), Unlisted> {
-    compare_values(heap, plan, kind, Direction::Forward, start, count)?;
-    compare_values(heap, plan, kind, Direction::Backward, start, count)?;
-    Ok(())
+    // Compares the values at every node in a direction, and answers those of the reference.
+    pub(crate) fn compare_values<K: Kind>(
+        &self,
+        kind: &K,
+        direction: Direction,
+        start: K::Value,
+        count: &mut Comparisons,
+    ) -> Result<Vec<K::Value>, Unlisted> {
+        let listed = values(self.heap, self.plan, kind, direction, start)?;
+        let found = self.swept(kind, direction, start)?;
+        note_values(kind, start, &listed, &found, count);
+        Ok(listed)
+    }
+
+    // Compares the values at every node in both directions.
+    pub(crate) fn compare_both_ways<K: Kind>(
+        &self,
+        kind: &K,
+        start: K::Value,
+        count: &mut Comparisons,
+    ) -> Result<(), Unlisted> {
+        self.compare_values(kind, Direction::Forward, start, count)?;
+        self.compare_values(kind, Direction::Backward, start, count)?;
+        Ok(())
+    }
 }

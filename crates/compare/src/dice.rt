@@ -49,11 +49,11 @@ impl Dice {
         match self.below(16) {
             0 => Statement::Idle,
             1 => Statement::Wait,
-            2 | 3 | 4 => Statement::Set(v, -4),
+            2..=4 => Statement::Set(v, -4),
             5 => Statement::Set(v, 215),
             6 => Statement::Copy(v, a),
             7 => Statement::Send(a),
-            8 | 9 | 10 => Statement::Probe(v, a),
+            8..=10 => Statement::Probe(v, a),
             11 | 12 => Statement::Add(2, a, 1),
             13 => Statement::Sub(2, a, 1),
             14 => Statement::Min(v, a, 1),

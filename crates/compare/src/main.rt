@@ -1,9 +1,9 @@
 // Draws many small plans, and compares what the library finds with what a listing of their runs leaves.
 #![tactic(auto)]
 
-use answers::{compare_dead, compare_fixed, compare_redundant};
 use bitset::bits::Bits;
-use comparing::compare_both_ways;
+use comparing::Case;
+use counter::Counter;
 use dice::Dice;
 use drawing::draw;
 use expressions::numbering::number;
@@ -12,18 +12,17 @@ use facts::bitwise::Bitwise;
 use facts::constant::Constant;
 use facts::dead::Dead;
 use facts::fixed::Fixed;
-use pairs::both::Both;
 use pairs::pair::Pair;
 use plan::conditions::Conditions;
-use plan::stored::Plan;
 use reference::unlisted::Unlisted;
 use shapes::Shapes;
 use std::alloc::Global;
 use std::io;
-use tally::{Count, Tally};
+use tally::{Comparisons, Tally};
 
 mod answers;
 mod comparing;
+mod counter;
 mod dice;
 mod drawing;
 mod shapes;
@@ -33,94 +32,84 @@ mod tally;
 const PLANS: u64 = 1000;
 
 // What became of the plans that were drawn.
-#[derive(Drop)]
+#[derive(Default, Drop)]
 struct Outcome {
     tally: Tally,
     shapes: Shapes,
     // plans that are not whole
-    refused: u64,
+    refused: Counter,
     // plans with too many runs to list
-    crowded: u64,
+    crowded: Counter,
     // plans that could not be drawn, and whole ones of which something was refused
-    failed: u64,
+    failed: Counter,
 }
 
-// Compares available expressions, dead variables and the pair of them, in both directions.
-fn compare_words(
-    heap: Global,
-    plan: &Plan,
-    available: Bitwise<Available>,
-    conditions: Conditions,
-    count: &mut Count,
-) -> Result<(), Unlisted> {
-    let kind = Pair {
-        left: available,
-        right: Bitwise(Dead {}),
-    };
-    let start = Both {
-        left: Bits::except(conditions.kept),
-        right: Bits::every(),
-    };
-    compare_both_ways(heap, plan, &kind.left, start.left, count)?;
-    compare_both_ways(heap, plan, &kind.right, start.right, count)?;
-    compare_both_ways(heap, plan, &kind, start, count)
-}
-
-// Compares the values of a variable, and of the pair of two, in both directions.
-fn compare_constants(heap: Global, plan: &Plan, count: &mut Count) -> Result<(), Unlisted> {
-    let kind = Pair {
-        left: Fixed { variable: 0 },
-        right: Fixed { variable: 1 },
-    };
-    let start = Both {
-        left: Constant::Number(-4),
-        right: Constant::Unfixed,
-    };
-    compare_both_ways(heap, plan, &kind.left, start.left, count)?;
-    compare_both_ways(heap, plan, &kind, start, count)
-}
-
-// Compares every fact about a plan.
-fn compare(
-    heap: Global,
-    plan: &Plan,
-    conditions: Conditions,
-    tally: &mut Tally,
-) -> Result<(), Unlisted> {
-    let available = Bitwise(Available {
-        expressions: number(plan.nodes())?,
-    });
-    compare_redundant(heap, plan, &available, tally)?;
-    compare_dead(heap, plan, conditions, tally)?;
-    for variable in 0..3 {
-        compare_fixed(heap, plan, variable, tally)?;
+impl Case<'_> {
+    // Compares available expressions, dead variables and the pair of them, in both directions.
+    fn compare_words(
+        &self,
+        available: Bitwise<Available>,
+        count: &mut Comparisons,
+    ) -> Result<(), Unlisted> {
+        let kind = Pair {
+            left: available,
+            right: Bitwise(Dead {}),
+        };
+        let start = Pair {
+            left: Bits::except(self.conditions.kept),
+            right: Bits::every(),
+        };
+        self.compare_both_ways(&kind.left, start.left, count)?;
+        self.compare_both_ways(&kind.right, start.right, count)?;
+        self.compare_both_ways(&kind, start, count)
     }
-    compare_words(heap, plan, available, conditions, &mut tally.values)?;
-    compare_constants(heap, plan, &mut tally.values)
+
+    // Compares the values of a variable, and of the pair of two, in both directions.
+    fn compare_constants(&self, count: &mut Comparisons) -> Result<(), Unlisted> {
+        let kind = Pair {
+            left: Fixed { variable: 0 },
+            right: Fixed { variable: 1 },
+        };
+        let start = Pair {
+            left: Constant::Number(-4),
+            right: Constant::Unfixed,
+        };
+        self.compare_both_ways(&kind.left, start.left, count)?;
+        self.compare_both_ways(&kind, start, count)
+    }
+
+    // Compares every fact.
+    fn compare(&self, tally: &mut Tally) -> Result<(), Unlisted> {
+        let available = Bitwise(Available {
+            expressions: number(self.plan.nodes())?,
+        });
+        self.compare_redundant(&available, tally)?;
+        self.compare_dead(tally)?;
+        for variable in 0..3 {
+            self.compare_fixed(variable, tally)?;
+        }
+        self.compare_words(available, &mut tally.values)?;
+        self.compare_constants(&mut tally.values)
+    }
 }
 
 impl Outcome {
-    fn new() -> Outcome {
-        Outcome {
-            tally: Tally::new(),
-            shapes: Shapes::new(),
-            refused: 0,
-            crowded: 0,
-            failed: 0,
-        }
-    }
-
     // Draws a plan and, if it is whole, compares it. Nothing is counted of a plan that has too many runs.
     fn take_one(&mut self, heap: Global, dice: &mut Dice) -> Result<(), Unlisted> {
         let plan = draw(heap, dice)?;
         let mut conditions = Conditions::new();
         conditions.keep(dice.below(8) as u16);
         if plan.whole().is_err() {
-            self.refused = self.refused.saturating_add(1);
+            self.refused.add_one();
             return Ok(());
         }
+        let case = Case {
+            heap,
+            plan: &plan,
+            conditions,
+        };
         let mut tally = self.tally;
-        compare(heap, &plan, conditions, &mut tally)?;
+        case.compare(&mut tally)?;
         self.tally = tally;
         self.shapes.note(&plan);
         Ok(())
@@ -130,9 +119,9 @@ impl Outcome {
     fn count_one(&mut self, heap: Global, dice: &mut Dice) {
         match self.take_one(heap, dice) {
             Ok(()) => {}
-            Err(Unlisted::TooMany) => self.crowded = self.crowded.saturating_add(1),
+            Err(Unlisted::TooMany) => self.crowded.add_one(),
             Err(Unlisted::Refused(_) | Unlisted::TooLarge | Unlisted::NoMemory) => {
-                self.failed = self.failed.saturating_add(1);
+                self.failed.add_one();
             }
         }
     }
@@ -140,34 +129,27 @@ impl Outcome {
 
 // Prints how many plans were drawn and compared.
 fn tell_plans(rt: &HostRuntime, outcome: &Outcome) -> io::Result<()> {
-    let refused = outcome.refused;
-    let crowded = outcome.crowded;
-    let failed = outcome.failed;
     println!(rt;
-        "plans {PLANS} drawn, {refused} not whole, {crowded} with too many runs, {failed} failed"
+        "plans {PLANS} drawn, {} not whole, {} with too many runs, {} failed",
+        outcome.refused, outcome.crowded, outcome.failed
     )?;
-    let shapes = outcome.shapes;
-    println!(rt; "plans {shapes}")
+    println!(rt; "plans {}", outcome.shapes)
 }
 
 // Prints what was compared.
-fn tell_counts(rt: &HostRuntime, tally: Tally) -> io::Result<()> {
-    let values = tally.values;
-    println!(rt; "values {values} not the start value")?;
-    let redundant = tally.redundant;
-    println!(rt; "bytes of redundant steps {redundant} redundant")?;
-    let dead = tally.dead;
-    println!(rt; "bytes of dead steps {dead} dead")?;
-    let fixed = tally.fixed;
-    println!(rt; "fixed values {fixed} numbers")
+fn tell_counts(rt: &HostRuntime, tally: &Tally) -> io::Result<()> {
+    println!(rt; "values {} not the start value", tally.values)?;
+    println!(rt; "bytes of redundant steps {} redundant", tally.redundant)?;
+    println!(rt; "bytes of dead steps {} dead", tally.dead)?;
+    println!(rt; "fixed values {} numbers", tally.fixed)
 }
 
 fn main(rt: HostRuntime) -> io::Result<()> {
     let mut dice = Dice::new(1);
-    let mut outcome = Outcome::new();
+    let mut outcome = Outcome::default();
     for _plan in 0..PLANS {
         outcome.count_one(rt.alloc(), &mut dice);
     }
     tell_plans(&rt, &outcome)?;
-    tell_counts(&rt, outcome.tally)
+    tell_counts(&rt, &outcome.tally)
 }

@@ -1,140 +1,106 @@
 // What the plans look like that were compared.
+use crate::counter::Counter;
 use expressions::variables::target;
 use plan::node::Node;
 use plan::statement::Statement;
 use plan::stored::Plan;
 use std::fmt;
+use std::ops::Range;
 
 // How many plans show each shape.
-#[derive(Clone, Copy)]
+#[derive(Clone, Copy, Default)]
 pub(crate) struct Shapes {
-    plans: u64,
+    plans: Counter,
     // with a fork
-    forked: u64,
+    forked: Counter,
     // with a fork in a branch
-    nested: u64,
+    nested: Counter,
     // with a fork in a branch, and a step that may change facts in another branch of the same fork
-    beside: u64,
+    beside: Counter,
     // with an arc back
-    looped: u64,
+    looped: Counter,
+}
+
+// The branches of a fork: regions that follow one another.
+#[derive(Clone, Copy)]
+struct Branches {
+    first: usize,
+    count: usize,
+}
+
+impl Branches {
+    fn regions(self) -> Range<usize> {
+        self.first..self.first.saturating_add(self.count)
+    }
+}
+
+// Whether a step waits or assigns.
+fn changes(statement: Statement) -> bool {
+    matches!(statement, Statement::Wait) || target(statement).is_some()
 }
 
 // Whether a region holds a fork.
 fn holds_fork(nodes: &[Node], region: usize) -> bool {
-    for node in nodes {
-        if let Node::Fork(around, _, _) = *node {
-            if around == region {
-                return true;
-            }
-        }
-    }
-    false
+    nodes.iter().any(|node| matches!(*node, Node::Fork(around, _, _) if around == region))
 }
 
 // Whether a region holds a step that waits or assigns.
 fn holds_change(nodes: &[Node], region: usize) -> bool {
-    for node in nodes {
-        if let Node::Step(around, statement) = *node {
-            let waits = match statement {
-                Statement::Wait => true,
-                _ => false,
-            };
-            if around == region && (waits || target(statement).is_some()) {
-                return true;
-            }
-        }
-    }
-    false
+    nodes.iter().any(|node| match *node {
+        Node::Step(around, statement) => around == region && changes(statement),
+        Node::Fork(_, _, _) => false,
+    })
 }
 
 // Whether a branch of a fork, other than a given one, holds a step that waits or assigns.
-fn changes_beside(nodes: &[Node], first: usize, branches: usize, given: usize) -> bool {
-    for branch in first..first.saturating_add(branches) {
-        if branch != given && holds_change(nodes, branch) {
-            return true;
-        }
-    }
-    false
+fn changes_beside(nodes: &[Node], branches: Branches, given: usize) -> bool {
+    branches
+        .regions()
+        .any(|branch| branch != given && holds_change(nodes, branch))
 }
 
 // Whether a branch of a fork holds a fork itself, beside a branch with a step that waits or assigns.
-fn nests_beside(nodes: &[Node], first: usize, branches: usize) -> bool {
-    for branch in first..first.saturating_add(branches) {
-        if holds_fork(nodes, branch) && changes_beside(nodes, first, branches, branch) {
-            return true;
-        }
-    }
-    false
+fn nests_beside(nodes: &[Node], branches: Branches) -> bool {
+    let mut regions = branches.regions();
+    regions.any(|branch| holds_fork(nodes, branch) && changes_beside(nodes, branches, branch))
 }
 
 // Whether some fork has a branch that holds a fork, beside one with a step that waits or assigns.
 fn is_beside(nodes: &[Node]) -> bool {
-    for node in nodes {
-        if let Node::Fork(_, first, branches) = *node {
-            if nests_beside(nodes, first, branches) {
-                return true;
-            }
-        }
-    }
-    false
+    nodes.iter().any(|node| match *node {
+        Node::Step(_, _) => false,
+        Node::Fork(_, first, count) => nests_beside(nodes, Branches { first, count }),
+    })
 }
 
 // Whether a fork lies in a branch.
 fn is_nested(nodes: &[Node]) -> bool {
-    for node in nodes {
-        if let Node::Fork(region, _, _) = *node {
-            if region > 0 {
-                return true;
-            }
-        }
-    }
-    false
+    nodes.iter().any(|node| matches!(*node, Node::Fork(region, _, _) if region > 0))
 }
 
 // Whether an arc leads back.
 fn is_looped(plan: &Plan) -> bool {
-    for arc in plan.arcs() {
-        if arc.to <= arc.from {
-            return true;
-        }
-    }
-    false
+    plan.arcs().iter().any(|arc| arc.to <= arc.from)
 }
 
 impl Shapes {
-    pub(crate) fn new() -> Shapes {
-        Shapes {
-            plans: 0,
-            forked: 0,
-            nested: 0,
-            beside: 0,
-            looped: 0,
-        }
-    }
-
     // Counts a plan.
     pub(crate) fn note(&mut self, plan: &Plan) {
         let nodes = plan.nodes();
-        self.plans = self.plans.saturating_add(1);
-        self.forked = self
-            .forked
-            .saturating_add(u64::from(plan.regions().len() > 1));
-        self.nested = self.nested.saturating_add(u64::from(is_nested(nodes)));
-        self.beside = self.beside.saturating_add(u64::from(is_beside(nodes)));
-        self.looped = self.looped.saturating_add(u64::from(is_looped(plan)));
+        self.plans.add_one();
+        self.forked.add_if(plan.regions().len() > 1);
+        self.nested.add_if(is_nested(nodes));
+        self.beside.add_if(is_beside(nodes));
+        self.looped.add_if(is_looped(plan));
     }
 }
 
 impl fmt::Display for Shapes {
     fn fmt<W: fmt::Write>(&self, f: &mut fmt::Formatter<W>) -> fmt::Result {
-        let plans = self.plans;
-        let forked = self.forked;
-        let nested = self.nested;
-        let beside = self.beside;
-        let looped = self.looped;
         write!(
             f,
-            "{plans} compared, {forked} forked, {nested} nested, {beside} nested beside a wait or an assignment, {looped} looped"
+            "{} compared, {} forked, {} nested, {} nested beside a wait or an assignment, {} looped",
+            self.plans, self.forked, self.nested, self.beside, self.looped
         )
     }
 }

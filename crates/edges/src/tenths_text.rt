@@ -8,10 +8,7 @@ fn both_ways(rt: &impl Abort, number: i32, text: &[u8]) -> Result<(), Fail> {
     let mut out = [b'x'; 13];
     let length = tenths::write(number, &mut out)?;
     assert_eq!(rt; length, text.len());
-    let Some(written) = out.get(0..length) else {
-        return Err(Fail::new("too long"));
-    };
-    assert!(rt; written == text);
+    assert_eq!(rt; out.get(..length), Some(text));
     assert_eq!(rt; out[12], b'x');
     assert_eq!(rt; tenths::read(text), Ok(number));
     Ok(())

@@ -1,13 +1,13 @@
 -- Numbering expressions node by node.
-use Rattle.std.proofs.Common.{◌≡◌, ℕ, suc, ◌+◌, ◌<◌, ◌≤◌, Bool, true, false, cond, not, ◌||◌, leb, List, [], ◌∷◌, ◌++◌, length, get_or, take, set, Some, None, filter, Option, sym, refl, ap, ◌∙◌, subst, inl, inr, append_assoc, append-nil, add-one, arith, below_more}
+use Rattle.std.proofs.Common.{◌≡◌, ℕ, suc, ◌+◌, ◌<◌, ◌≤◌, Bool, true, false, cond, not, ◌||◌, List, [], ◌∷◌, ◌++◌, length, get_or, take, set, Some, None, filter, Option, sym, refl, ap, ◌∙◌, subst, inl, inr, append_assoc, append-nil, add-one, arith, below_more}
 use Rattle.std.proofs.lemmas.List.Elements.{filter-append}
-use Rattle.std.proofs.lemmas.List.{take_more, take_more_set, take_all, length-take-le, length_push}
-use Rattle.std.proofs.lemmas.Bool.{cases_Bool, cond-true, cond-false, or_left, le-leb, lt-leb, leb-false}
+use Rattle.std.proofs.lemmas.List.{take_more, take_more_set, length-take-le, length_push}
+use Rattle.std.proofs.lemmas.Bool.{cases_Bool, cond-true, cond-false, or_left}
 use Rattle.refusals.specs.declared.refusal.Refusal.TheVariants.{TooManyExpressions}
 use Rattle.plan.specs.declared.node.Node.{Node}
 use Rattle.expressions.specs.declared.expression.Expression.{Expression}
 use Rattle.expressions.specs.declared.table.Expressions.{Expressions}
-use Rattle.expressions.specs.Expressions.{same, holds, also, computed_by, as_list, all_computed, distinct, expressions, listed, Fitting, Holding, Crowded}
+use Rattle.expressions.specs.Expressions.{same, holds, also, computed_by, as_list, all_computed, distinct, expressions, listed, Fitting, Crowded}
 use Rattle.expressions.proofs.Places.{same_true}
 
 -- ---- one more expression
@@ -80,18 +80,18 @@ module _ (e : Expression) (t : Expressions) where
   pub added_there : holds e (listed t) ≡ true → also e (listed t) ≡ listed t
   added_there h = cond-true _ _ _ h
 
-  pub there_fits : holds e (listed t) ≡ true → true ≡ leb (length (also e (listed t))) 64
-  there_fits h = sym (ap (λ (es : List Expression). leb (length es) 64) (added_there h) ∙ le-leb (length (listed t)) 64 (omega (arith, length_listed t)))
+  pub there_fits : holds e (listed t) ≡ true → length (also e (listed t)) ≤ 64
+  there_fits h = omega (arith, ap length (added_there h), length_listed t)
 
   -- it is new
   new_length : holds e (listed t) ≡ false → length (also e (listed t)) ≡ t.count + 1
   new_length h = ap length (cond-false (holds e (listed t)) (listed t) _ h) ∙ length_push (listed t) e ∙ ap (λ (n : ℕ). n + 1) (length_listed t)
 
-  pub new_fits : holds e (listed t) ≡ false → t.count < 64 → true ≡ leb (length (also e (listed t))) 64
-  new_fits h l = sym (le-leb _ 64 (omega (arith, new_length h)))
+  pub new_fits : holds e (listed t) ≡ false → t.count < 64 → length (also e (listed t)) ≤ 64
+  new_fits h l = omega (arith, new_length h)
 
-  pub new_too_many : holds e (listed t) ≡ false → 64 ≤ t.count → false ≡ leb (length (also e (listed t))) 64
-  new_too_many h l = sym (lt-leb _ 64 (omega (arith, new_length h)))
+  pub new_too_many : holds e (listed t) ≡ false → 64 ≤ t.count → 64 < length (also e (listed t))
+  new_too_many h l = omega (arith, new_length h)
 
   pub added_new : holds e (listed t) ≡ false → t.count < 64 → take (t.count + 1) (set t.items t.count e) ≡ also e (listed t)
   added_new h l = take_more_set t.items t.count e (omega (arith, t.room)) ∙ sym (cond-false (holds e (listed t)) (listed t) _ h)
@@ -118,7 +118,7 @@ module _ (ns : List Node) where
       fits = subst (λ (n : ℕ). length (expressions (take n ns)) ≤ 64) (add-one i) (omega (arith, ap length new, length_listed t'))
 
   pub node_too_many : (i : ℕ) (d : Node) (e : Expression) (t : Expressions) → i < length ns → Some e ≡ computed_by (get_or ns i d)
-      → false ≡ leb (length (also e (listed t))) 64 → SoFar ns i t → Crowded ns (TooManyExpressions i)
+      → 64 < length (also e (listed t)) → SoFar ns i t → Crowded ns (TooManyExpressions i)
   node_too_many i d e t h is full s = (i, refl, record { within = h; lacks = lacks; least = s.fitting })
     where
       count : length (expressions (take (suc i) ns)) ≡ length (also e (listed t))
@@ -127,7 +127,4 @@ module _ (ns : List Node) where
           ∙ ap length (expressions_more ns i d (Some e) h is ∙ ap (also e) (sym s.holding))
 
       lacks : Fitting ns i → ⊥
-      lacks fits = omega (arith, fits, count, leb-false (length (also e (listed t))) 64 (sym full))
-
-  pub all_numbered : (i : ℕ) (t : Expressions) → length ns ≤ i → SoFar ns i t → Holding ns t
-  all_numbered i t h s = record { holding = s.holding ∙ ap expressions (take_all i ns h); fitting = λ n l. s.fitting n (omega arith) }
+      lacks fits = omega (arith, fits, count, full)

@@ -1,9 +1,12 @@
--- Expressions in lists: whether one is there, and where.
-use Rattle.std.proofs.Common.{◌≡◌, ℕ, zero, suc, ◌<◌, Bool, true, false, cond, ◌||◌, eqb, List, [], ◌∷◌, length, get_or, is_some, Some, None, Option, sym, refl, ap, ◌∙◌, arith}
-use Rattle.std.proofs.lemmas.Bool.{and_parts, eqb-true, cond-true, cond-false}
+-- Whether two expressions are one, and whether one is in a list.
+use Rattle.std.proofs.Common.{◌≡◌, ℕ, zero, suc, ◌+◌, Bool, true, false, cond, not, ◌||◌, eqb, List, [], ◌∷◌, length, is_some, Some, None, sym, refl, ◌∙◌, arith}
+use Rattle.std.specs.Prelude.{nat_lt}
+use Rattle.std.specs.List.{list_any, position_or_len}
+use Rattle.std.proofs.lemmas.Bool.{and_parts, eqb-true}
+use Rattle.std.proofs.lemmas.Bool.Decides.{nat_tests}
 use Rattle.expressions.specs.declared.expression.Expression.{Expression}
 use Rattle.expressions.specs.declared.expression.Expression.TheVariants.{Probe, Add, Sub, Min, Max}
-use Rattle.expressions.specs.Expressions.{parts, same, holds, next, place}
+use Rattle.expressions.specs.Expressions.{parts, same, holds, place}
 
 -- ---- the test of equality
 
@@ -34,27 +37,28 @@ same_true e f t =
 
 -- ---- where an expression stands
 
-pub place_found : (e : Expression) (es : List Expression) (i : ℕ) (d : Expression) → i < length es
-    → ((k : ℕ) → k < i → same (get_or es k d) e ≡ false) → same (get_or es i d) e ≡ true → place e es ≡ Some i
-place_found e [] i d h before is = absurd (omega arith)
-place_found e (f ∷ es) zero d h before is = cond-true _ _ _ is
-place_found e (f ∷ es) (suc i) d h before is =
-    cond-false _ _ _ (before 0 (omega arith)) ∙ ap next (place_found e es i d (omega arith) (λ k l. before (suc k) (omega arith)) is)
-
-pub place_nowhere : (e : Expression) (es : List Expression) (d : Expression) → ((k : ℕ) → k < length es → same (get_or es k d) e ≡ false) → place e es ≡ None
-place_nowhere e [] d none = refl
-place_nowhere e (f ∷ es) d none =
-    cond-false _ _ _ (none 0 (omega arith)) ∙ ap next (place_nowhere e es d (λ k l. none (suc k) (omega arith)))
-
-some_next : (o : Option ℕ) → is_some (next o) ≡ is_some o
-some_next None = refl
-some_next (Some i) = refl
-
 -- it stands somewhere exactly if it is there
 pub some_place : (e : Expression) (es : List Expression) → is_some (place e es) ≡ holds e es
-some_place e [] = refl
-some_place e (f ∷ es) = go (same f e) (some_next (place e es) ∙ some_place e es)
+some_place e es = some_if (nat_lt (position_or_len test es) (length es)) (position_or_len test es) ∙ before_end es
   where
-    go : (b : Bool) → is_some (next (place e es)) ≡ holds e es → is_some (cond b (Some 0) (next (place e es))) ≡ (b || holds e es)
-    go true is = refl
-    go false is = is
+    test : Expression → Bool
+    test f = same f e
+
+    some_if : (b : Bool) (i : ℕ) → is_some (cond b (Some i) None) ≡ b
+    some_if true i = refl
+    some_if false i = refl
+
+    one_more : (m n : ℕ) → nat_lt (1 + m) (suc n) ≡ nat_lt m n
+    one_more m n = grind (arith, nat_tests)
+
+    none_first : (n : ℕ) → nat_lt 0 (suc n) ≡ true
+    none_first n = grind (arith, nat_tests)
+
+    before_end : (es : List Expression) → nat_lt (position_or_len test es) (length es) ≡ list_any test es
+    before_end [] = refl
+    before_end (f ∷ es) = go (test f) (before_end es)
+      where
+        go : (b : Bool) → nat_lt (position_or_len test es) (length es) ≡ list_any test es
+            → nat_lt (cond (not b) (1 + position_or_len test es) 0) (suc (length es)) ≡ (b || list_any test es)
+        go true is = none_first (length es)
+        go false is = one_more (position_or_len test es) (length es) ∙ is

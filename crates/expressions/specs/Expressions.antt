@@ -5,7 +5,8 @@
 --   listed       what a table of expressions holds
 --   place        where an expression stands in a list
 --   Holding      a table holds the expressions of some nodes, and Crowded says why there is none
-use Rattle.std.specs.Prelude.{◌≡◌, ℕ, suc, ◌<◌, ◌≤◌, Bool, true, false, cond, not, ◌&&◌, ◌||◌, List, [], ◌∷◌, ◌++◌, length, take, Some, None, filter, Option, ◌==◌}
+use Rattle.std.specs.Prelude.{◌≡◌, ℕ, suc, ◌<◌, ◌≤◌, Bool, true, false, cond, not, ◌&&◌, ◌||◌, List, [], ◌∷◌, ◌++◌, length, take, Some, None, filter, position, Option, ◌==◌}
+use Rattle.std.specs.List.{list_any}
 use Rattle.refusals.specs.declared.refusal.Refusal.{Refusal}
 use Rattle.refusals.specs.declared.refusal.Refusal.TheVariants.{TooManyExpressions}
 use Rattle.plan.specs.declared.statement.Statement.{Statement}
@@ -65,18 +66,11 @@ same e f = (parts e).0 == (parts f).0 && ((parts e).1 == (parts f).1 && (parts e
 
 -- whether e is in a list
 abbrev pub holds : Expression → List Expression → Bool
-holds e [] = false
-holds e (f ∷ fs) = same f e || holds e fs
-
--- one place further
-abbrev pub next : Option ℕ → Option ℕ
-next None = None
-next (Some i) = Some (suc i)
+holds e es = list_any (λ f. same f e) es
 
 -- the first place at which e stands in a list
 abbrev pub place : Expression → List Expression → Option ℕ
-place e [] = None
-place e (f ∷ fs) = cond (same f e) (Some 0) (next (place e fs))
+place e es = position (λ f. same f e) es
 
 -- the list with e at its end, unless e is there
 abbrev pub also : Expression → List Expression → List Expression

@@ -8,7 +8,8 @@ use plan::node::Node;
 use plan::statement::Statement;
 
 impl Expression {
-    // Whether two expressions are one.
+    // Whether two expressions are one. The derived `==` does it; its contract ties that to the test that the rules are told by,
+    // which the derive has no place for.
     pub fn is(self, other: Expression) -> bool
         ensures test { result ≡ same self other }
         ensures equal { Decides result (self ≡ other) }
@@ -35,10 +36,7 @@ pub fn computes(statement: Statement) -> Option<Expression>
 pub fn makes(statement: Statement, expression: Expression) -> bool
     ensures { result ≡ makes statement expression }
 {
-    match computes(statement) {
-        Some(made) => made.is(expression),
-        None => false,
-    }
+    computes(statement).is_some_and(|made| made.is(expression))
 }
 
 // The expression that a node computes; a fork computes none.
@@ -56,10 +54,7 @@ pub fn disturbs(statement: Statement, expression: Expression) -> bool
     ensures { result ≡ disturbed statement expression }
 {
     match expression {
-        Expression::Probe(_) => match statement {
-            Statement::Wait => true,
-            _ => false,
-        },
+        Expression::Probe(_) => matches!(statement, Statement::Wait),
         Expression::Add(a, b)
         | Expression::Sub(a, b)
         | Expression::Min(a, b)

@@ -1,5 +1,6 @@
 // The expressions of a plan, numbered by the lowest nodes that compute them.
-ghost use Rattle.std.specs.Prelude.{◌≡◌, [], length, if◌then◌else◌, MatchResult, nat_le};
+ghost use Rattle.std.specs.Prelude.{◌≡◌, ◌<◌, ◌≤◌, [], length, MatchResult};
+ghost use Rattle.refusals.specs.declared.refusal.Refusal.TheVariants.{TooManyExpressions};
 ghost use Rattle.expressions.specs.Expressions.{listed, place, also, Holding, Crowded};
 
 use crate::computing::node_computes;
@@ -23,35 +24,31 @@ impl Expressions {
     pub fn as_slice(&self) -> &[Expression]
         ensures { result.now ≡ listed self.now }
     {
-        &self.items[0..self.count]
+        &self.items[..self.count]
     }
 
     // The number of an expression.
     pub fn position(&self, expression: Expression) -> Option<usize>
         ensures { result ≡ place expression (listed self.now) }
     {
-        for (number, item) in self.as_slice().iter().enumerate() {
-            if item.is(expression) {
-                return Some(number);
-            }
-        }
-        None
+        self.as_slice().iter().position(|item| item.is(expression))
     }
 
-    // Gives an expression the next number, unless it has one. Says whether there was room.
-    fn add(&mut self, expression: Expression) -> bool
-        ensures told { result ≡ nat_le (length (also expression (listed self.old))) 64 }
-        ensures table { listed self.new ≡ (if result then also expression (listed self.old) else listed self.old) }
+    // Gives an expression that a node computes the next number, unless it has one; refused where there is no room.
+    fn add(&mut self, expression: Expression, node: usize) -> Result<(), Refusal>
+        ensures { MatchResult result
+            (λ _. (length (also expression (listed self.old)) ≤ 64) × (listed self.new ≡ also expression (listed self.old)))
+            (λ e. (64 < length (also expression (listed self.old))) × (e ≡ TooManyExpressions node) × (listed self.new ≡ listed self.old)) }
     {
         if self.position(expression).is_some() {
-            return true;
+            return Ok(());
         }
         if self.count >= PLACES {
-            return false;
+            return Err(Refusal::TooManyExpressions(node));
         }
         self.items[self.count] = expression;
         self.count += 1;
-        true
+        Ok(())
     }
 }
 
@@ -62,9 +59,7 @@ pub fn number(nodes: &[Node]) -> Result<Expressions, Refusal>
     let mut table = Expressions::new();
     for (lowest, node) in nodes.iter().enumerate() {
         if let Some(expression) = node_computes(*node) {
-            if !table.add(expression) {
-                return Err(Refusal::TooManyExpressions(lowest));
-            }
+            table.add(expression, lowest)?;
         }
     }
     Ok(table)

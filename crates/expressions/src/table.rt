@@ -6,6 +6,8 @@ use crate::expression::Expression;
 // The most expressions that a table holds.
 pub const PLACES: usize = 64;
 
+// An array with a count: to number expressions takes no memory that could be wanting, and a kind of fact holds its table by
+// value, so that the table is `Copy`, which the vectors of fixed capacity of the library are not.
 #[derive(Clone, Copy)]
 pub struct Expressions {
     pub(crate) items: [Expression; PLACES],

@@ -25,16 +25,7 @@ pub fn target(statement: Statement) -> Option<u32>
 pub fn assigns(statement: Statement, variable: u32) -> bool
     ensures { result ≡ assigned variable statement }
 {
-    match statement {
-        Statement::Idle | Statement::Wait | Statement::Send(_) => false,
-        Statement::Set(v, _)
-        | Statement::Copy(v, _)
-        | Statement::Probe(v, _)
-        | Statement::Add(v, _, _)
-        | Statement::Sub(v, _, _)
-        | Statement::Min(v, _, _)
-        | Statement::Max(v, _, _) => v == variable,
-    }
+    target(statement) == Some(variable)
 }
 
 // Whether a statement uses a variable.

@@ -3,6 +3,7 @@ ghost use Rattle.facts.specs.Available.{available_effect};
 ghost use Rattle.expressions.specs.Expressions.{listed};
 
 use crate::masks::Masks;
+use crate::setting::setting;
 use bitset::bits::Bits;
 use expressions::computing::{disturbs, makes};
 use expressions::table::Expressions;
@@ -18,16 +19,11 @@ impl Masks for Available {
     ghost masks = { λ k node s. available_effect (listed k.expressions) s };
 
     fn mask(&self, _node: usize, statement: Statement) -> Effect<Bits, Bits> {
-        let mut gate = Bits::every();
-        let mut forced = Bits::every();
-        for (number, expression) in self.expressions.as_slice().iter().enumerate() {
-            if disturbs(statement, *expression) {
-                gate = gate.without(number);
-                forced = forced.without(number);
-            } else if makes(statement, *expression) {
-                gate = gate.without(number);
-            }
-        }
-        Effect { gate, forced }
+        let expressions = self.expressions.as_slice();
+        setting(
+            expressions.len(),
+            |i| disturbs(statement, expressions[i]),
+            |i| makes(statement, expressions[i]),
+        )
     }
 }

@@ -8,3 +8,4 @@ pub mod dead;
 pub mod fixed;
 pub mod four;
 pub mod masks;
+mod setting;

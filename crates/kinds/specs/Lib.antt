@@ -1,2 +1,3 @@
 pub mod Kinds
 pub mod Effects
+pub mod Room

@@ -19,7 +19,8 @@ pub trait Kind {
     fn top(&self) -> Self::Value
         ensures { result ≡ (algebra self.now).top };
 
-    // Whether two values are equal.
+    // Whether two values are equal. Not by a bound `Eq`, which says of `==` only that it is an equivalence: a comparison must
+    // tell every two values apart.
     fn same(&self, x: Self::Value, y: Self::Value) -> bool
         ensures { Decides result (x ≡ y) };
 
@@ -39,7 +40,7 @@ pub trait Kind {
     fn either(&self, g: Self::Gate, h: Self::Gate) -> Self::Gate
         ensures { result ≡ (algebra self.now).either g h };
 
-    // Whether two gates are equal.
+    // Whether two gates are equal, likewise.
     fn same_gate(&self, g: Self::Gate, h: Self::Gate) -> bool
         ensures { Decides result (g ≡ h) };
 

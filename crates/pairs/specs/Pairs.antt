@@ -1,19 +1,19 @@
 -- Two kinds side by side.
 use Rattle.std.specs.Prelude.{◌+◌}
-use Rattle.pairs.specs.declared.both.Both.{Both}
+use Rattle.pairs.specs.declared.pair.Pair.{Pair}
 use Rattle.kinds.specs.declared.effect.Effect.{Effect}
 use Rattle.kinds.specs.Kinds.{Algebra}
 
 -- x on the left and y on the right
-abbrev pub side : {L R : Type 0} → L → R → Both L R
+abbrev pub side : {L R : Type 0} → L → R → Pair L R
 side x y = record { left = x; right = y }
 
 -- one effect on either side
-abbrev pub effects_beside : {V W G H : Type 0} → Effect G V → Effect H W → Effect (Both G H) (Both V W)
+abbrev pub effects_beside : {V W G H : Type 0} → Effect G V → Effect H W → Effect (Pair G H) (Pair V W)
 effects_beside e f = record { gate = side e.gate f.gate; forced = side e.forced f.forced }
 
 -- what either kind does, done on its own side
-abbrev pub paired : {V W G H : Type 0} → Algebra V G → Algebra W H → Algebra (Both V W) (Both G H)
+abbrev pub paired : {V W G H : Type 0} → Algebra V G → Algebra W H → Algebra (Pair V W) (Pair G H)
 paired a b = record {
   meet = λ x y. side (a.meet x.left y.left) (b.meet x.right y.right);
   top = side a.top b.top;

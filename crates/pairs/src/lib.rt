@@ -1,5 +1,4 @@
-// Two kinds of fact side by side.
+// Two things side by side, and two kinds of fact as one.
 #![tactic(auto)]
 
-pub mod both;
 pub mod pair;

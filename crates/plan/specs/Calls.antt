@@ -5,6 +5,7 @@
 --   answer    what the call returns
 --   drawn     the plan that a row of calls makes, and `answers_of` what they return
 use Rattle.std.specs.Prelude.{ℕ, ◌+◌, Bool, true, false, cond, not, ◌&&◌, ◌||◌, List, [], ◌∷◌, ◌++◌, length, replicate, Some, None, Ok, Err, Option, Result, ◌==◌, nat_le, nat_lt, slice_set}
+use Rattle.std.specs.List.{list_any}
 use Rattle.refusals.specs.declared.refusal.Refusal.{Refusal}
 use Rattle.refusals.specs.declared.refusal.Refusal.TheVariants as refused
 use Rattle.plan.specs.declared.node.Node.{Node}
@@ -12,8 +13,6 @@ use Rattle.plan.specs.declared.node.Node.TheVariants as node
 use Rattle.plan.specs.declared.node.Arc as declared
 use Rattle.plan.specs.declared.call.Call.{Call}
 use Rattle.plan.specs.declared.call.Call.TheVariants.{Lay, Fork, Arc, Ends, Change}
-use Rattle.plan.specs.declared.call.Made.{Made}
-use Rattle.plan.specs.declared.call.Made.TheVariants as made
 use Rattle.plan.specs.Drawn.{Drawn, blank, node_at, region_of}
 use Rattle.plan.specs.Statements.{in_range}
 
@@ -33,8 +32,7 @@ is_fork (node.Fork r b k) = true
 
 -- an arc from m to n is among the arcs
 abbrev pub has_arc : ℕ → ℕ → List declared.Arc → Bool
-has_arc m n [] = false
-has_arc m n (a ∷ rest) = (a.from == m && a.to == n) || has_arc m n rest
+has_arc m n arcs = list_any (λ a. a.from == m && a.to == n) arcs
 
 -- The tests, each for the calls that it may refuse.
 
@@ -114,13 +112,13 @@ accepted p (Arc m n) = record { nodes = p.nodes; arcs = p.arcs ++ (record { from
 accepted p (Ends r f l) = record { nodes = p.nodes; arcs = p.arcs; ends = slice_set p.ends r (Some (record { first = f; last = l })) }
 accepted p (Change n s) = record { nodes = slice_set p.nodes n (node.Step (region_of (node_at p n)) s); arcs = p.arcs; ends = p.ends }
 
--- lay and fork answer the number of the node that they make
-abbrev pub made_by : Drawn → Call → Made
-made_by p (Lay r s) = made.Node (length p.nodes)
-made_by p (Fork r k) = made.Node (length p.nodes)
-made_by p (Arc m n) = made.Nothing
-made_by p (Ends r f l) = made.Nothing
-made_by p (Change n s) = made.Nothing
+-- the number of the node that a call makes, if it makes one
+abbrev pub made_by : Drawn → Call → Option ℕ
+made_by p (Lay r s) = Some (length p.nodes)
+made_by p (Fork r k) = Some (length p.nodes)
+made_by p (Arc m n) = None
+made_by p (Ends r f l) = None
+made_by p (Change n s) = None
 
 -- x, unless it is refused
 abbrev pub unless : {X : Type 0} → Option Refusal → X → Result X Refusal
@@ -135,7 +133,7 @@ kept_if (Some e) p q = p
 abbrev pub after : Drawn → Call → Drawn
 after p c = kept_if (refusal p c) p (accepted p c)
 
-abbrev pub answer : Drawn → Call → Result Made Refusal
+abbrev pub answer : Drawn → Call → Result (Option ℕ) Refusal
 answer p c = unless (refusal p c) (made_by p c)
 
 -- a row of calls, each going on from the plan as it is, refused or not
@@ -143,7 +141,7 @@ abbrev pub after_all : Drawn → List Call → Drawn
 after_all p [] = p
 after_all p (c ∷ cs) = after_all (after p c) cs
 
-abbrev pub answers_of : Drawn → List Call → List (Result Made Refusal)
+abbrev pub answers_of : Drawn → List Call → List (Result (Option ℕ) Refusal)
 answers_of p [] = []
 answers_of p (c ∷ cs) = answer p c ∷ answers_of (after p c) cs
 

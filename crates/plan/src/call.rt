@@ -14,11 +14,3 @@ pub enum Call {
     // of a node, another statement
     Change(usize, Statement),
 }
-
-// What a call that is not refused answers.
-#[derive(Clone, Copy, PartialEq, Eq, Debug)]
-pub enum Made {
-    // the number of the node that it made
-    Node(usize),
-    Nothing,
-}

@@ -57,12 +57,7 @@ fn add_regions(regions: &mut Vec<Option<Ends>>, count: usize)
 fn has_arc(arcs: &[Arc], from: usize, to: usize) -> bool
     ensures { result ≡ has_arc from to arcs.now }
 {
-    for arc in arcs {
-        if arc.from == from && arc.to == to {
-            return true;
-        }
-    }
-    false
+    arcs.iter().any(|arc| arc.from == from && arc.to == to)
 }
 
 // The plan with region 0 and nothing else, where there is room for all that a plan may hold.

@@ -5,6 +5,7 @@ pub mod call;
 pub mod conditions;
 pub mod drawing;
 pub mod node;
+pub mod printing;
 pub mod rows;
 pub mod statement;
 pub mod stored;

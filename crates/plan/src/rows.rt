@@ -4,7 +4,7 @@ ghost use Rattle.plan.specs.Drawn.{blank};
 ghost use Rattle.plan.specs.Stored.{seen};
 ghost use Rattle.plan.specs.Calls.{after, after_all, answer, answers_of, drawn};
 
-use crate::call::{Call, Made};
+use crate::call::Call;
 use crate::node::{Arc, Ends, Node};
 use crate::stored::Plan;
 use refusals::refusal::Refusal;
@@ -32,25 +32,26 @@ impl Plan {
         self.ends.as_slice()
     }
 
-    // Performs a call.
-    pub fn perform(&mut self, call: Call) -> Result<Made, Refusal>
+    // Performs a call, and answers the number of the node that it made, if it made one. A call is a value, and this the one
+    // place that tells the five apart, since the contracts speak of rows of calls.
+    pub fn perform(&mut self, call: Call) -> Result<Option<usize>, Refusal>
         ensures answer { result ≡ answer (seen self.old) call }
         ensures plan { seen self.new ≡ after (seen self.old) call }
     {
         match call {
-            Call::Lay(region, statement) => Ok(Made::Node(self.lay(region, statement)?)),
-            Call::Fork(region, branches) => Ok(Made::Node(self.fork(region, branches)?)),
+            Call::Lay(region, statement) => Ok(Some(self.lay(region, statement)?)),
+            Call::Fork(region, branches) => Ok(Some(self.fork(region, branches)?)),
             Call::Arc(from, to) => {
                 self.arc(from, to)?;
-                Ok(Made::Nothing)
+                Ok(None)
             }
             Call::Ends(region, first, last) => {
                 self.ends(region, first, last)?;
-                Ok(Made::Nothing)
+                Ok(None)
             }
             Call::Change(node, statement) => {
                 self.change(node, statement)?;
-                Ok(Made::Nothing)
+                Ok(None)
             }
         }
     }
@@ -60,14 +61,14 @@ impl Plan {
 #[derive(Drop)]
 pub struct Drawing {
     pub plan: Plan,
-    pub answers: Vec<Result<Made, Refusal>>,
+    pub answers: Vec<Result<Option<usize>, Refusal>>,
 }
 
 // Performs the calls one after another, and adds what each answers.
 fn perform_all(
     plan: &mut Plan,
     calls: &[Call],
-    answers: &mut Vec<Result<Made, Refusal>>,
+    answers: &mut Vec<Result<Option<usize>, Refusal>>,
 ) -> Result<(), AllocError>
     ensures { IfOk result (λ _.
         (seen plan.new ≡ after_all (seen plan.old) calls.now)

@@ -25,7 +25,8 @@ impl Arc {
 }
 
 impl Ends {
-    // The node with which a region begins in a direction.
+    // The node with which a region begins in a direction. It and the next are two functions, since with one for both ends each
+    // call would have to name the end by a flag.
     pub fn first_in(self, direction: Direction) -> usize
         ensures { result ≡ first_in direction self }
     {
@@ -65,12 +66,7 @@ fn first_unset(marks: &[bool], count: usize) -> Option<usize>
     requires { count ≤ length marks.now }
     ensures { MatchOption result ((n : ℕ) → n < count → Marked marks.now n) (λ n. Lowest count (Marked marks.now) n) }
 {
-    for n in 0..count {
-        if !marks[n] {
-            return Some(n);
-        }
-    }
-    None
+    marks[..count].iter().position(|mark| !*mark)
 }
 
 impl Plan {
@@ -138,12 +134,7 @@ impl Plan {
         ensures { MatchOption result (Ended (seen self.now))
             (λ q. Lowest (length (seen self.now).ends) (λ q. ends_at (seen self.now) q ≢ None) q) }
     {
-        for (region, named) in self.ends.iter().enumerate() {
-            if named.is_none() {
-                return Some(region);
-            }
-        }
-        None
+        self.ends.iter().position(|named| named.is_none())
     }
 
     // Whether the plan is whole, or the first refusal that says why not.

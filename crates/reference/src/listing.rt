@@ -1,9 +1,9 @@
 // What the runs of a small plan leave, found by listing them.
-ghost use Rattle.std.specs.Prelude.{◌≡◌, IfOk, vec_len, MatchResult};
+ghost use Rattle.std.specs.Prelude.{◌≡◌, ◌⊎◌, IfOk, IfErr, vec_len, MatchResult};
 ghost use Rattle.plan.specs.Stored.{seen};
 ghost use Rattle.reference.specs.Listed.{Listed, NotListed};
 
-use crate::moves::{Run, advance};
+use crate::moves::{Lister, Run};
 use crate::state::{MOST_NODES, MOST_REGIONS, Place, State};
 use crate::unlisted::Unlisted;
 use kinds::kind::Kind;
@@ -14,61 +14,40 @@ use std::alloc::{AllocError, Global};
 // The most runs that are listed, with the beginnings of runs.
 const BUDGET: usize = 50000;
 
-// Meets what a run leaves into the value of every node that it is about to begin.
-fn reach<K: Kind>(kind: &K, run: Run<K::Value>, values: &mut [K::Value]) {
-    let Run { state, value } = run;
-    for region in 0..MOST_REGIONS {
-        if let Place::Before(node) = state.place(region) {
-            if node < values.len() {
-                values[node] = kind.meet(values[node], value);
+impl<K: Kind> Lister<'_, K> {
+    // The run that has only entered the outermost region.
+    fn begun(&self, heap: Global, value: K::Value) -> Result<Vec<Run<K::Value>>, AllocError>
+        ensures { IfOk result (λ runs. vec_len runs ≡ 1) }
+    {
+        let mut state = State::new();
+        self.enter(&mut state, 0);
+        vec![in heap; Run { state, value }; 1]
+    }
+
+    // Meets what a run leaves into the value of every node that it is about to begin.
+    fn reach(&self, run: &Run<K::Value>, values: &mut [K::Value]) {
+        for place in run.state.places {
+            if let Place::Before(node) = place
+                && node < values.len()
+            {
+                values[node] = self.kind.meet(values[node], run.value);
             }
         }
     }
-}
 
-// Lists the runs that go on from those given, and meets what they leave. Says whether the budget sufficed.
-fn list<K: Kind>(
-    plan: &Plan,
-    kind: &K,
-    direction: Direction,
-    runs: &mut Vec<Run<K::Value>>,
-    values: &mut [K::Value],
-) -> Result<bool, AllocError> {
-    for _listed in 0..BUDGET {
-        let Some(run) = runs.pop() else {
-            return Ok(true);
-        };
-        reach(kind, run, values);
-        advance(plan, kind, direction, run, runs)?;
+    // Lists the runs that go on from those given, and meets what they leave.
+    fn list(&self, runs: &mut Vec<Run<K::Value>>, values: &mut [K::Value]) -> Result<(), Unlisted>
+        ensures { IfErr result (λ e. (e ≡ Unlisted.TooMany) ⊎ (e ≡ Unlisted.NoMemory)) }
+    {
+        for _listed in 0..BUDGET {
+            let Some(run) = runs.pop() else {
+                return Ok(());
+            };
+            self.reach(&run, values);
+            self.advance(run, runs)?;
+        }
+        Err(Unlisted::TooMany)
     }
-    Ok(false)
-}
-
-// The run that has only entered the outermost region.
-fn begun<V: Copy>(
-    heap: Global,
-    plan: &Plan,
-    direction: Direction,
-    value: V,
-) -> Result<Vec<Run<V>>, AllocError>
-    ensures { IfOk result (λ runs. vec_len runs ≡ 1) }
-{
-    let mut state = State::new();
-    state.enter(plan, direction, 0);
-    let mut runs = Vec::new(heap);
-    runs.push(Run { state, value })?;
-    Ok(runs)
-}
-
-// The top, for every node.
-fn tops<K: Kind>(heap: Global, kind: &K, nodes: usize) -> Result<Vec<K::Value>, AllocError>
-    ensures { IfOk result (λ values. vec_len values ≡ nodes) }
-{
-    let mut values = Vec::new(heap);
-    for _node in 0..nodes {
-        values.push(kind.top())?;
-    }
-    Ok(values)
 }
 
 // For every node of a small plan, the meet of what the runs that reach it leave of the start value.
@@ -85,10 +64,13 @@ pub fn values<K: Kind>(
     if plan.nodes().len() > MOST_NODES || plan.regions().len() > MOST_REGIONS {
         return Err(Unlisted::TooLarge);
     }
-    let mut runs = begun(heap, plan, direction, start)?;
-    let mut values = tops(heap, kind, plan.nodes().len())?;
-    if !list(plan, kind, direction, &mut runs, values.as_mut_slice())? {
-        return Err(Unlisted::TooMany);
-    }
+    let lister = Lister {
+        plan,
+        kind,
+        direction,
+    };
+    let mut runs = lister.begun(heap, start)?;
+    let mut values = vec![in heap; kind.top(); plan.nodes().len()]?;
+    lister.list(&mut runs, &mut values)?;
     Ok(values)
 }

@@ -1,8 +1,8 @@
 // Where a run stands.
-ghost use Rattle.std.specs.Prelude.{◌≡◌, ◌+◌, ◌<◌, ◌≤◌, length, MatchBool, slice_index, slice_index_or, slice_set};
+ghost use Rattle.std.specs.Prelude.{◌≡◌, ◌+◌, ◌<◌, ◌≤◌, MatchBool, slice_index, slice_set};
 
-use plan::node::{Direction, Node};
-use plan::stored::Plan;
+use plan::node::Node;
+use std::ops::Range;
 
 // The largest plans whose runs are listed.
 pub(crate) const MOST_NODES: usize = 12;
@@ -14,7 +14,7 @@ pub(crate) const MOST_REGIONS: usize = 8;
 const TURNS: u8 = 2;
 
 // Where a run stands in one region.
-#[derive(Clone, Copy)]
+#[derive(Clone, Copy, PartialEq, Eq)]
 pub(crate) enum Place {
     // the region is not entered
     Outside,
@@ -29,10 +29,8 @@ pub(crate) enum Place {
 // Where a run stands in every region, and how often each node was begun since its region was entered.
 #[derive(Clone, Copy)]
 pub(crate) struct State {
-    places: [Place; MOST_REGIONS],
+    pub(crate) places: [Place; MOST_REGIONS],
     begun: [u8; MOST_NODES],
-    ghost regions: { length places ≡ 8 },
-    ghost nodes: { length begun ≡ 12 },
 }
 
 impl State {
@@ -41,17 +39,6 @@ impl State {
         State {
             places: [Place::Outside; MOST_REGIONS],
             begun: [0; MOST_NODES],
-        }
-    }
-
-    // Where the run stands in a region.
-    pub(crate) fn place(&self, region: usize) -> Place
-        ensures { result ≡ slice_index_or self.now.places region Place.Outside }
-    {
-        if region < MOST_REGIONS {
-            self.places[region]
-        } else {
-            Place::Outside
         }
     }
 
@@ -80,47 +67,16 @@ impl State {
     }
 
     // Forgets how often the nodes of a region were begun.
-    fn forget(&mut self, nodes: &[Node], region: usize) {
-        for (n, node) in nodes.iter().enumerate() {
-            if n < MOST_NODES && node.region() == region {
-                self.begun[n] = 0;
+    pub(crate) fn forget(&mut self, nodes: &[Node], region: usize) {
+        for (turns, node) in self.begun.iter_mut().zip(nodes) {
+            if node.region() == region {
+                *turns = 0;
             }
         }
     }
 
-    // Enters a region: it is about to begin its first node.
-    pub(crate) fn enter(&mut self, plan: &Plan, direction: Direction, region: usize) {
-        self.forget(plan.nodes(), region);
-        if let Some(Some(ends)) = plan.regions().get(region) {
-            self.put(region, Place::Before(ends.first_in(direction)));
-        }
-    }
-
-    // Enters every branch of a fork.
-    pub(crate) fn enter_all(
-        &mut self,
-        plan: &Plan,
-        direction: Direction,
-        first: usize,
-        branches: usize,
-    ) {
-        for branch in 0..MOST_REGIONS {
-            if first <= branch && branch - first < branches {
-                self.enter(plan, direction, branch);
-            }
-        }
-    }
-
-    // Whether every branch of a fork is behind its last node.
-    pub(crate) fn all_done(&self, first: usize, branches: usize) -> bool {
-        for (branch, place) in self.places.iter().enumerate() {
-            if first <= branch && branch - first < branches {
-                match place {
-                    Place::Done => {}
-                    _ => return false,
-                }
-            }
-        }
-        true
+    // Whether every one of some regions is behind its last node.
+    pub(crate) fn all_done(&self, mut regions: Range<usize>) -> bool {
+        regions.all(|region| self.places.get(region) == Some(&Place::Done))
     }
 }

@@ -5,7 +5,7 @@ ghost use Rattle.refusals.specs.Table.{number_of, place_of};
 use crate::refusal::Refusal;
 
 impl Refusal {
-    // Its number in the table.
+    // Its number in the table. The enum is what code goes by; the number is what a refusal is known by outside, and prints.
     pub fn number(self) -> u8
         ensures { result ≡ number_of self }
     {

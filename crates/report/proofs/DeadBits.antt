@@ -1,6 +1,6 @@
 -- What the bit of a variable says of a run.
 use Rattle.std.proofs.Common.{◌≡◌, ℕ, ◌<◌, Bool, true, false, not, ◌&&◌, ◌↔◌, List, [], ◌∷◌, sym, refl, ap, ◌∙◌, ap₂, inl, inr, arith, lt-ltb}
-use borrow.Author.Tests.{clash}
+use Rattle.std.proofs.lemmas.Bool.{not-true, not_from_false}
 use Rattle.plan.specs.declared.node.Node.{Node}
 use Rattle.plan.specs.declared.node.Node.TheVariants.{Step, Fork}
 use Rattle.plan.specs.Drawn.{Drawn, node_at}
@@ -23,10 +23,6 @@ dead = bitwise (λ node s. dead_effect (uses s) (assigns s))
 -- what is dead at the end: whatever is not kept
 abbrev pub unkept : ℕ → Bits
 unkept kept = bits_from (λ i. not (bit i kept))
-
-not_true : (b : Bool) → (not b ≡ true) ↔ (b ≡ false)
-not_true true = (λ h. absurd (clash h), λ h. absurd (clash (sym h)))
-not_true false = (λ h. refl, λ h. refl)
 
 module _ (v : ℕ) (below : v < 16) where
   low : v < 64
@@ -52,10 +48,10 @@ module _ (v : ℕ) (below : v < 16) where
         let start = bit_from (λ i. not (bit i kept)) v low in
         let l = along_law (λ n. among v (used_by (node_at p n))) (λ n. among v (assigned_by (node_at p n))) w (bit v (unkept kept).word) in (
           λ h. elim (l.0 (sym (run_bit w (unkept kept)) ∙ h)) [
-            | inl t ↦ inl ((not_true (bit v kept)).0 (sym start ∙ t.0), t.1)
+            | inl t ↦ inl (not-true (bit v kept) (sym start ∙ t.0), t.1)
             | inr t ↦ inr t
           ],
-          λ h. run_bit w (unkept kept) ∙ l.1 (elim h [ inl t ↦ inl (start ∙ (not_true (bit v kept)).1 t.0, t.1) | inr t ↦ inr t ]),
+          λ h. run_bit w (unkept kept) ∙ l.1 (elim h [ inl t ↦ inl (start ∙ not_from_false (bit v kept) t.0, t.1) | inr t ↦ inr t ]),
         )
 
     pub meet_unread : (kept : ℕ) {member : List ℕ → Type 0} {x : Bits} → IsMeet dead member (λ w. run dead (steps_of dead p) w (unkept kept)) x

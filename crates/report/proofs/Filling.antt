@@ -1,12 +1,9 @@
 -- Slots filled one after another.
-use Rattle.std.proofs.Common.{◌≡◌, ℕ, ◌+◌, ◌<◌, ◌⊎◌, List, length, get_or, set, sym, refl, ◌∙◌, subst, inl, inr, arith, length-set, get_or-set_other, get_or-set_same}
+use Rattle.std.proofs.Common.{◌≡◌, ℕ, ◌+◌, ◌<◌, ◌⊎◌, List, length, get_or, set, sym, ◌∙◌, subst, inl, inr, arith, length-set, get_or-set_other, get_or-set_same}
 use Rattle.std.proofs.lemmas.Bool.{cases_eq}
 use Rattle.report.specs.Listing.{Filled}
 
 module _ {X : Type 0} (d : X) (fill : ℕ → X) (start : List X) where
-  pub filled_none : Filled d fill 0 start start
-  filled_none = record { front = λ n h. absurd (omega arith); kept = record { rest = λ k x h. refl; long = refl } }
-
   pub filled_more : (xs : List X) (n : ℕ) (x : X) → n < length start → x ≡ fill n → Filled d fill n start xs → Filled d fill (n + 1) start (set xs n x)
   filled_more xs n x h is s = record {
     front = λ k l. at k l (cases_eq k n);

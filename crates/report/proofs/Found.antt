@@ -1,8 +1,8 @@
 -- The two lists and the numbers that are sent are what a report tells.
-use Rattle.std.proofs.Common.{◌≡◌, ℕ, ◌<◌, ◌≤◌, Bool, true, false, eqb, ◌↔◌, List, length, get_or, take, drop, replicate, ℤ, is_some, Some, None, Option, sym, refl, ap, ◌∙◌, subst, inl, inr, zero-add, arith, length-append, eq-eqb}
+use Rattle.std.proofs.Common.{◌≡◌, ℕ, ◌<◌, ◌≤◌, Bool, true, false, eqb, ◌↔◌, List, [], length, ◌++◌, get_or, take, drop, replicate, ℤ, is_some, Some, None, Option, sym, refl, ap, ◌∙◌, subst, inl, inr, arith, length-append, eq-eqb}
 use mathlib.Core.Bool.{or-false}
 use borrow.Author.Tests.{clash}
-use Rattle.std.proofs.lemmas.List.{get_or-take}
+use Rattle.std.proofs.lemmas.List.{get_or-take, length-take-le}
 use Rattle.std.proofs.lemmas.Bool.{cases_Bool}
 use Rattle.plan.specs.declared.node.Node.{Node}
 use Rattle.plan.specs.Drawn.{Drawn, node_at, Ranged}
@@ -12,11 +12,10 @@ use Rattle.expressions.specs.Variables.{among}
 use Rattle.report.specs.Listing.{listed_in, ListsRedundant}
 use Rattle.report.specs.Strikes.{RedundantStep}
 use Rattle.report.specs.Unread.{assigned_by, used_by, DeadStep, ListsDead}
-use Rattle.report.specs.Putting.{Put}
+use Rattle.report.specs.Putting.{RoomFor}
 use Rattle.report.specs.Reported.{SendsFixed, Findings, Found, report_text, findings_in, Reports}
 use Rattle.report.specs.Sending.{SentBelow}
 use Rattle.report.proofs.Length.{Alone, report_short}
-use Rattle.report.proofs.Putting.{put_whole}
 use Rattle.report.proofs.Ranges.{node_uses_low}
 
 -- at first nothing is noted
@@ -68,20 +67,27 @@ module _ (p : Drawn) (ranged : Ranged p) (kept : ℕ) (listed listed' unread unr
   alone n h None is = tt
   alone n h (Some c) is = let s = (sends n h c).0 is in (not_redundant n h c s, not_dead n h c s, below.fits n c is)
 
-  module _ (m : ℕ) (count : m ≡ length p.nodes) where
-    pub fits : length p.nodes ≤ 256 → (room : ℕ) → 8192 ≤ room → length (report_text findings m) ≤ room
-    fits small room h = omega (arith, h, report_short findings m (omega (arith, small, count)) (λ n l. alone n (omega (arith, l, count)) (get_or sent n None) refl))
+  -- how many nodes the bytes are of
+  abbrev pub nodes : ℕ
+  nodes = length (take k listed')
 
-    pub reports : (before after : List ℕ) (written : ℕ) → 8192 ≤ length before → Put before 0 (report_text findings m) after written → Reports p kept before after written
-    reports before after written room put = record {
-      whole = redundant.whole;
-      uncrowded = redundant.uncrowded;
-      room = room;
-      text = report_text findings m;
-      reported = (findings, found, ap (report_text findings) count);
-      long = put.ends ∙ zero-add (length (report_text findings m));
-      bytes = put_whole put;
-    }
+  nodes-all : nodes ≡ length p.nodes
+  nodes-all = length-take-le k listed' (omega (arith, all, redundant.room, redundant.kept.long)) ∙ all
+
+  pub fits : length p.nodes ≤ 256 → RoomFor [] (report_text findings nodes)
+  fits small = omega (arith, report_short findings nodes (omega (arith, nodes-all)) (λ n l. alone n (omega (arith, nodes-all)) (get_or sent n None) refl))
+
+  pub reports : (before after : List ℕ) (written : ℕ) → 8192 ≤ length before → written ≡ length (report_text findings nodes) → after ≡ report_text findings nodes ++ drop written before
+      → Reports p kept before after written
+  reports before after written room long bytes = record {
+    whole = redundant.whole;
+    uncrowded = redundant.uncrowded;
+    room = room;
+    text = report_text findings nodes;
+    reported = (findings, found, ap (report_text findings) nodes-all);
+    long = long;
+    bytes = bytes;
+  }
 
 -- the text of a report lies within the bytes
 pub within : {p : Drawn} {kept : ℕ} {before after : List ℕ} {written : ℕ} → Reports p kept before after written → written ≤ length after

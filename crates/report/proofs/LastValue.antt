@@ -1,7 +1,6 @@
 -- What a run leaves in a variable.
-use Rattle.std.proofs.Common.{◌≡◌, ℕ, ◌<◌, Bool, true, false, cond, ◌||◌, eqb, ◌⊎◌, ◌↔◌, List, [], ◌∷◌, ◌++◌, length, get_or, ℤ, is_some, Some, Option, sym, refl, ap, ◌∙◌, ap₂, inl, inr, arith, eq-eqb, eqb-true}
+use Rattle.std.proofs.Common.{◌≡◌, ℕ, ◌<◌, Bool, true, false, cond, ◌||◌, eqb, ◌⊎◌, ◌↔◌, List, [], ◌∷◌, ◌++◌, length, get_or, ℤ, Some, Option, sym, refl, ap, ◌∙◌, ap₂, inl, inr, eq-eqb, eqb-true}
 use mathlib.Core.Bool.{or-false}
-use borrow.Author.Tests.{clash}
 use Rattle.std.proofs.lemmas.Bool.{cases_Bool, cond-true, cond-false}
 use Rattle.plan.specs.declared.node.Node.{Node}
 use Rattle.plan.specs.declared.node.Node.TheVariants.{Step, Fork}
@@ -11,13 +10,14 @@ use Rattle.facts.specs.declared.constant.Constant.{Constant}
 use Rattle.facts.specs.declared.constant.Constant.TheVariants.{Unknown, Number, Unfixed}
 use Rattle.facts.specs.declared.constant.Door.TheVariants.{Open, Shut}
 use Rattle.kinds.specs.Effects.{act, IsMeet}
-use Rattle.facts.specs.Fixed.{fixed, agreed, becomes, height}
+use Rattle.facts.specs.Fixed.{fixed, agreed, becomes}
 use Rattle.facts.specs.FixedLaws.{equal_tells, meet_idem}
 use Rattle.expressions.specs.Variables.{among, assigned}
 use Rattle.runs.specs.Actions.{run, of_node, steps_of}
 use Rattle.report.specs.Strikes.{Every}
 use Rattle.report.specs.Unread.{assigned_by}
-use Rattle.report.specs.Fixing.{number_of, Sets, Unassigned, LastSet, FixedBefore}
+use Rattle.facts.specs.Numbers.{number_of}
+use Rattle.report.specs.Fixing.{Sets, Unassigned, LastSet, FixedBefore}
 use Rattle.report.proofs.Reached.{run_some}
 use Rattle.sweep.specs.Swept.{ValuesMeet}
 use Rattle.plan.specs.declared.node.Direction.TheVariants.{Forward}
@@ -34,20 +34,17 @@ agreed_unknown (Number m) = refl
 agreed_unknown Unfixed = refl
 
 made_known : (x : Node) → made_by x ≡ Unknown → ⊥
-made_known (Step r Idle) e = let z : ◌≡◌ {A = ℕ} 0 2 = ap height e in omega arith
-made_known (Step r Wait) e = let z : ◌≡◌ {A = ℕ} 0 2 = ap height e in omega arith
-made_known (Step r (Set v c)) e = let z : ◌≡◌ {A = ℕ} 1 2 = ap height e in omega arith
-made_known (Step r (Copy v a)) e = let z : ◌≡◌ {A = ℕ} 0 2 = ap height e in omega arith
-made_known (Step r (Send a)) e = let z : ◌≡◌ {A = ℕ} 0 2 = ap height e in omega arith
-made_known (Step r (Probe v q)) e = let z : ◌≡◌ {A = ℕ} 0 2 = ap height e in omega arith
-made_known (Step r (Add v a b)) e = let z : ◌≡◌ {A = ℕ} 0 2 = ap height e in omega arith
-made_known (Step r (Sub v a b)) e = let z : ◌≡◌ {A = ℕ} 0 2 = ap height e in omega arith
-made_known (Step r (Min v a b)) e = let z : ◌≡◌ {A = ℕ} 0 2 = ap height e in omega arith
-made_known (Step r (Max v a b)) e = let z : ◌≡◌ {A = ℕ} 0 2 = ap height e in omega arith
-made_known (Fork r b k) e = let z : ◌≡◌ {A = ℕ} 0 2 = ap height e in omega arith
-
-unfixed_not : {c : ℤ} → Unfixed ≡ Number c → ⊥
-unfixed_not e = let z : ◌≡◌ {A = ℕ} 0 1 = ap height e in omega arith
+made_known (Step r Idle) e = cc
+made_known (Step r Wait) e = cc
+made_known (Step r (Set v c)) e = cc
+made_known (Step r (Copy v a)) e = cc
+made_known (Step r (Send a)) e = cc
+made_known (Step r (Probe v q)) e = cc
+made_known (Step r (Add v a b)) e = cc
+made_known (Step r (Sub v a b)) e = cc
+made_known (Step r (Min v a b)) e = cc
+made_known (Step r (Max v a b)) e = cc
+made_known (Fork r b k) e = cc
 
 -- what a number is below is that number, if anything is known
 above_number : (c : ℤ) (x : Constant) → agreed (Number c) x ≡ Number c → (x ≡ Unknown → ⊥) → x ≡ Number c
@@ -55,7 +52,7 @@ above_number c Unknown b k = absurd (k refl)
 above_number c (Number d) b k =
     elim (equal_tells c d) [
       | inl t ↦ ap Number (sym t.1)
-      | inr t ↦ absurd (unfixed_not (sym (cond-false _ (Number c) Unfixed t.0) ∙ b))
+      | inr t ↦ let is : Unfixed ≡ Number c = sym (cond-false _ (Number c) Unfixed t.0) ∙ b in cc
     ]
 above_number c Unfixed b k = b
 
@@ -70,17 +67,17 @@ module _ (v : ℕ) where
 
   -- a number is made by `set` alone
   made_set : (x : Node) (c : ℤ) → among v (assigned_by x) ≡ true → made_by x ≡ Number c → (r : ℕ) × (x ≡ Step r (Set v c))
-  made_set (Step r Idle) c a e = absurd (unfixed_not e)
-  made_set (Step r Wait) c a e = absurd (unfixed_not e)
+  made_set (Step r Idle) c a e = cc
+  made_set (Step r Wait) c a e = cc
   made_set (Step r (Set w d)) c a e = (r, ap₂ (λ i j. Step r (Set i j)) (eqb-true w v (sym (or-false (eqb w v)) ∙ a)) cc)
-  made_set (Step r (Copy w a')) c a e = absurd (unfixed_not e)
-  made_set (Step r (Send w)) c a e = absurd (unfixed_not e)
-  made_set (Step r (Probe w q)) c a e = absurd (unfixed_not e)
-  made_set (Step r (Add w i j)) c a e = absurd (unfixed_not e)
-  made_set (Step r (Sub w i j)) c a e = absurd (unfixed_not e)
-  made_set (Step r (Min w i j)) c a e = absurd (unfixed_not e)
-  made_set (Step r (Max w i j)) c a e = absurd (unfixed_not e)
-  made_set (Fork r b k) c a e = absurd (unfixed_not e)
+  made_set (Step r (Copy w a')) c a e = cc
+  made_set (Step r (Send w)) c a e = cc
+  made_set (Step r (Probe w q)) c a e = cc
+  made_set (Step r (Add w i j)) c a e = cc
+  made_set (Step r (Sub w i j)) c a e = cc
+  made_set (Step r (Min w i j)) c a e = cc
+  made_set (Step r (Max w i j)) c a e = cc
+  made_set (Fork r b k) c a e = cc
 
   module _ (p : Drawn) where
     abbrev pub after : ℕ → Constant → Constant
@@ -130,12 +127,12 @@ module _ (v : ℕ) where
 
     pub run_set : (c : ℤ) (w : List ℕ) → (run (fixed v) (steps_of (fixed v) p) w Unfixed ≡ Number c) ↔ LastSet p v c w
     run_set c w = (
-      λ e. elim (last_from c w Unfixed (sym (run_last w Unfixed) ∙ e)) [ inl t ↦ absurd (unfixed_not t.0) | inr t ↦ t ],
+      λ e. elim (last_from c w Unfixed (sym (run_last w Unfixed) ∙ e)) [ inl t ↦ cc | inr t ↦ t ],
       λ t. run_last w Unfixed ∙ ap (λ u. last u Unfixed) t.cut ∙ last_set c t.before t.at t.behind Unfixed t.is t.kept,
     )
 
     run_known : (w : List ℕ) → run (fixed v) (steps_of (fixed v) p) w Unfixed ≡ Unknown → ⊥
-    run_known w e = last_known w Unfixed (λ q. let z : ◌≡◌ {A = ℕ} 0 2 = ap height q in omega arith) (sym (run_last w Unfixed) ∙ e)
+    run_known w e = last_known w Unfixed (λ q. cc) (sym (run_last w Unfixed) ∙ e)
 
     -- the meet over all runs is a number if all leave that number
     pub meet_set : {member : List ℕ → Type 0} {x : Constant} → IsMeet (fixed v) member (λ w. run (fixed v) (steps_of (fixed v) p) w Unfixed) x
@@ -147,9 +144,9 @@ module _ (v : ℕ) where
     )
 
 pub number_some : (x : Constant) (c : ℤ) → (number_of x ≡ Some c) ↔ (x ≡ Number c)
-number_some Unknown c = (λ e. absurd (clash (ap is_some e)), λ e. absurd (let z : ◌≡◌ {A = ℕ} 2 1 = ap height e in omega arith))
+number_some Unknown c = (λ e. cc, λ e. cc)
 number_some (Number d) c = (λ e. ap Number cc, λ e. ap number_of e)
-number_some Unfixed c = (λ e. absurd (clash (ap is_some e)), λ e. absurd (unfixed_not e))
+number_some Unfixed c = (λ e. cc, λ e. cc)
 
 pub fixed_before : (p : Drawn) → Sound p → Whole p → (v n : ℕ) → v < 16 → n < length p.nodes → (vs : List Constant) → ValuesMeet (fixed v) p Forward Unfixed vs
     → (r : Option ℤ) → r ≡ number_of (get_or vs n Unknown) → FixedBefore p v n r

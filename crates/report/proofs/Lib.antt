@@ -9,11 +9,8 @@ pub mod Ranges
 pub mod ListedDead
 pub mod Reached
 pub mod LastValue
-pub mod Events
 pub mod Pairs
 pub mod SentValues
-pub mod Putting
-pub mod Labels
 pub mod Lines
 pub mod Length
 pub mod Found

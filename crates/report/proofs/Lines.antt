@@ -1,38 +1,25 @@
--- The lines of a report, told in the parts in which they are put.
-use Rattle.std.proofs.Common.{◌≡◌, ℕ, zero, suc, ◌+◌, ◌<◌, ◌≤◌, Bool, true, false, cond, List, [], ◌∷◌, ◌++◌, length, ℤ, Some, codes, decimal, Option, sym, ap, subst, ap₂, inl, inr, add-one, arith, length-append}
-use Rattle.std.proofs.lemmas.List.{append_assoc}
+-- The lines of a report and what they count, node by node.
+use Rattle.std.proofs.Common.{◌≡◌, ℕ, zero, suc, ◌+◌, ◌<◌, ◌≤◌, Bool, cond, List, ◌++◌, length, take, eqb, sym, refl, ap, ◌∙◌, subst, inl, inr, add-one, arith, length-append}
 use Rattle.std.proofs.lemmas.Bool.{cases_eq}
-use Rattle.tenths.specs.Text.{text_of}
-use Rattle.report.specs.Reported.{Findings, line, send_line, lines_of, node_lines, lines_to, count_to, total_line}
+use Rattle.std.proofs.lemmas.Bool.Decides.{nat_tests}
+use Rattle.std.proofs.Math.Seq.{take-length}
+use Rattle.std.proofs.lemmas.List.Sums.{sum_by_more}
+use Rattle.std.specs.List.{count_by}
+use Rattle.report.specs.Listing.{listed_in}
+use Rattle.report.specs.Putting.{RoomFor}
+use Rattle.report.specs.Reported.{Findings, node_lines, lines_to, count_to}
 
-abbrev pub line_end : List ℕ
-line_end = 10 ∷ []
+-- of bytes that list nodes or not, it is how many are 1
+counted : (bytes : List ℕ) (n : ℕ) → n ≤ length bytes → count_to (listed_in bytes) n ≡ count_by (λ b. eqb b 1) (take n bytes)
+counted bytes zero h = refl
+counted bytes (suc n) h = omega (arith, counted bytes n (omega arith), rw add-one at (sum_by_more (λ b. cond (eqb b 1) 1 0) bytes n 0 (omega arith)))
 
-pub send_parts : (n : ℕ) (c : ℤ) → send_line n (Some c) ≡ ((decimal n ++ codes " sends ") ++ text_of c) ++ line_end
-send_parts n c = ap line (sym (append_assoc (decimal n) (codes " sends ") (text_of c)))
-
-pub node_parts : (n : ℕ) (redundant dead : Bool) (sent : Option ℤ)
-    → lines_of n redundant dead sent
-    ≡ cond redundant (decimal n ++ (codes " redundant" ++ line_end)) [] ++ (cond dead (decimal n ++ (codes " dead" ++ line_end)) [] ++ send_line n sent)
-node_parts n redundant dead sent =
-    ap₂ (λ (r d : List ℕ). cond redundant r [] ++ (cond dead d [] ++ send_line n sent)) (append_assoc (decimal n) (codes " redundant") line_end) (append_assoc (decimal n) (codes " dead") line_end)
-
-pub total_parts : (nodes redundant dead : ℕ)
-    → total_line nodes redundant dead ≡ codes "nodes " ++ ((decimal nodes ++ codes " redundant ") ++ ((decimal redundant ++ codes " dead ") ++ (decimal dead ++ line_end)))
-total_parts nodes redundant dead = simp append_assoc
-
--- ---- one node more
-
-pub count_more : (has : ℕ → Bool) (n : ℕ) → count_to has (n + 1) ≡ count_to has n + cond (has n) 1 0
-count_more has n = rw add-one
+pub count_listed : (bytes : List ℕ) → count_to (listed_in bytes) (length bytes) ≡ count_by (λ b. eqb b 1) bytes
+count_listed bytes = counted bytes (length bytes) (omega arith) ∙ ap (count_by (λ b. eqb b 1)) (take-length bytes)
 
 pub count_le : (has : ℕ → Bool) (n : ℕ) → count_to has n ≤ n
 count_le has zero = omega arith
-count_le has (suc n) = omega (arith, count_le has n, one_at_most (has n))
-  where
-    one_at_most : (b : Bool) → cond b 1 0 ≤ 1
-    one_at_most true = omega arith
-    one_at_most false = omega arith
+count_le has (suc n) = grind (arith, nat_tests, count_le has n)
 
 pub lines_more : (f : Findings) (n : ℕ) → lines_to f (n + 1) ≡ lines_to f n ++ node_lines f n
 lines_more f n = rw add-one
@@ -46,9 +33,7 @@ lines_grow f n (suc m) h =
       | inr other ↦ omega (arith, lines_grow f n m (omega (arith, h, other)), length-append (lines_to f m) (node_lines f m))
     ]
 
-pub count_with : (has : ℕ → Bool) (n m k : ℕ) (b : Bool) → has n ≡ b → m ≡ count_to has n → k ≡ m + cond b 1 0 → k ≡ count_to has (n + 1)
-count_with has n m k b is so_far next = omega (arith, next, so_far, count_more has n, ap {B = ℕ} (λ (t : Bool). cond t 1 0) is)
-
-pub node_room : (f : Findings) (n count total behind : ℕ) → behind ≡ 0 + length (lines_to f n) → n < count → length (lines_to f count) ≤ total → behind + length (node_lines f n) ≤ total
-node_room f n count total behind is h room =
-    omega (arith, is, room, lines_grow f (n + 1) count (omega (arith, h)), ap length (lines_more f n), length-append (lines_to f n) (node_lines f n))
+-- room for the lines of all nodes has room for those of the next
+pub node_fits : (f : Findings) (n count : ℕ) (start written : List ℕ) → written ≡ start ++ lines_to f n → n < count → RoomFor start (lines_to f count) → RoomFor written (node_lines f n)
+node_fits f n count start written is h room =
+    omega (arith, lines_grow f (n + 1) count (omega arith), ap length is, length-append start (lines_to f n), ap length (lines_more f n), length-append (lines_to f n) (node_lines f n))

@@ -15,7 +15,8 @@ use Rattle.facts.specs.Four.{two, four}
 use Rattle.runs.specs.Actions.{run, steps_of}
 use Rattle.runs.specs.Runs.{Run}
 use Rattle.sweep.specs.Swept.{ValuesMeet}
-use Rattle.report.specs.Fixing.{number_of, FixedTo, Fits32}
+use Rattle.facts.specs.Numbers.{number_of, Fits32}
+use Rattle.report.specs.Fixing.{FixedTo}
 use Rattle.report.specs.Listing.{Filled}
 use Rattle.report.specs.Sending.{sent_by, Four, four_from, unknown_four, one_of, noted, sent_of, SendsBelow, SentBelow}
 use Rattle.report.proofs.LastValue.{meet_set, number_some}
@@ -24,17 +25,17 @@ use Rattle.report.proofs.Reached.{run_some}
 
 -- what sends is a send
 sent_step : (x : Node) (v : ℕ) → sent_by x ≡ Some v → (r : ℕ) × (x ≡ Step r (Send v))
-sent_step (Step r Idle) v e = absurd (clash (ap is_some e))
-sent_step (Step r Wait) v e = absurd (clash (ap is_some e))
-sent_step (Step r (Set u c)) v e = absurd (clash (ap is_some e))
-sent_step (Step r (Copy u a)) v e = absurd (clash (ap is_some e))
+sent_step (Step r Idle) v e = cc
+sent_step (Step r Wait) v e = cc
+sent_step (Step r (Set u c)) v e = cc
+sent_step (Step r (Copy u a)) v e = cc
 sent_step (Step r (Send a)) v e = (r, ap (λ (u : ℕ). Step r (Send u)) cc)
-sent_step (Step r (Probe u q)) v e = absurd (clash (ap is_some e))
-sent_step (Step r (Add u a b)) v e = absurd (clash (ap is_some e))
-sent_step (Step r (Sub u a b)) v e = absurd (clash (ap is_some e))
-sent_step (Step r (Min u a b)) v e = absurd (clash (ap is_some e))
-sent_step (Step r (Max u a b)) v e = absurd (clash (ap is_some e))
-sent_step (Fork r b k) v e = absurd (clash (ap is_some e))
+sent_step (Step r (Probe u q)) v e = cc
+sent_step (Step r (Add u a b)) v e = cc
+sent_step (Step r (Sub u a b)) v e = cc
+sent_step (Step r (Min u a b)) v e = cc
+sent_step (Step r (Max u a b)) v e = cc
+sent_step (Fork r b k) v e = cc
 
 -- nothing is known of the four at the start
 abbrev pub unfixed_four : Four

@@ -2,8 +2,7 @@
 --   LastSet      the last step of a word that assigns v sets it to c
 --   FixedTo      every run that reaches n leaves c in v
 --   FixedBefore  the number that every run leaves in v, if it is one and the same
-use Rattle.std.specs.Prelude.{◌≡◌, ℕ, ◌<◌, ◌≤◌, false, ◌⊎◌, ◌↔◌, List, ◌∷◌, ◌++◌, length, ℤ, Some, None, Option, FitsSigned}
-use Rattle.std.specs.Int.{w32}
+use Rattle.std.specs.Prelude.{◌≡◌, ℕ, ◌<◌, ◌≤◌, false, ◌⊎◌, ◌↔◌, List, ◌∷◌, ◌++◌, length, ℤ, Some, Option}
 use Rattle.refusals.specs.declared.refusal.Refusal.{Refusal}
 use Rattle.refusals.specs.declared.refusal.Refusal.TheVariants.{Missing, Operand}
 use Rattle.plan.specs.declared.statement.Statement.TheVariants.{Set}
@@ -11,22 +10,10 @@ use Rattle.plan.specs.declared.node.Node.TheVariants.{Step}
 use Rattle.plan.specs.declared.node.Direction.TheVariants.{Forward}
 use Rattle.plan.specs.Drawn.{Drawn, node_at}
 use Rattle.plan.specs.Paths.{Fault, Whole}
-use Rattle.facts.specs.declared.constant.Constant.{Constant}
-use Rattle.facts.specs.declared.constant.Constant.TheVariants.{Unknown, Number, Unfixed}
 use Rattle.expressions.specs.Variables.{among}
 use Rattle.runs.specs.Runs.{Run}
 use Rattle.report.specs.Strikes.{Every}
 use Rattle.report.specs.Unread.{assigned_by}
-
--- the number that is known, if one is
-abbrev pub number_of : Constant → Option ℤ
-number_of Unknown = None
-number_of (Number c) = Some c
-number_of Unfixed = None
-
--- a number that there may be is one of 32 bits
-abbrev pub Fits32 : Option ℤ → Type 0
-Fits32 o = (c : ℤ) → o ≡ Some c → FitsSigned w32 c
 
 module _ (p : Drawn) (v : ℕ) where
   abbrev pub Sets : ℤ → ℕ → Type 0

@@ -6,11 +6,14 @@
 use Rattle.std.specs.Prelude.{◌≡◌, ℕ, ◌<◌, ◌≤◌, Bool, false, cond, ◌⊎◌, List, length, Some, None, Option, ◌==◌, slice_index, slice_index_or}
 use Rattle.refusals.specs.declared.refusal.Refusal.{Refusal}
 use Rattle.refusals.specs.declared.refusal.Refusal.TheVariants.{Short}
+use Rattle.plan.specs.declared.node.Node.{Node}
+use Rattle.plan.specs.declared.node.Node.TheVariants.{Step}
+use Rattle.plan.specs.declared.statement.Statement.TheVariants.{Idle}
 use Rattle.plan.specs.Drawn.{Drawn}
 use Rattle.plan.specs.Paths.{Whole, Fault}
 use Rattle.bitset.specs.declared.bits.Bits.{Bits}
 use Rattle.expressions.specs.declared.expression.Expression.{Expression}
-use Rattle.bitset.specs.Bits.{bit}
+use Rattle.bitset.specs.Bits.{every, is_set}
 use Rattle.expressions.specs.Expressions.{place, Fitting, Crowded}
 use Rattle.sweep.specs.Swept.{KeptFrom}
 use Rattle.report.specs.Strikes.{Redundant, Strikeable}
@@ -27,10 +30,21 @@ pub record Filled {X : Type 0} (d : X) (fill : ℕ → X) (count : ℕ) (before 
 
 -- ---- how it is found
 
+-- a test that answers as f does of each node and its value
+abbrev pub TestedBy : (Node → Bits → Bool → Type 0) → List Node → List Bits → (Node → Bits → Bool) → Type 0
+TestedBy answers nodes values f =
+    (n : ℕ) → n < length nodes → (b : Bool)
+    → answers (slice_index_or nodes n (Step 0 Idle)) (slice_index_or values n every) b
+    → b ≡ f (slice_index_or nodes n (Step 0 Idle)) (slice_index_or values n every)
+
+-- the byte of each node that it is given: 1 where f holds of the node and its value
+abbrev pub marks : (Node → Bits → Bool) → List Node → List Bits → ℕ → ℕ
+marks f nodes values n = flag (f (slice_index_or nodes n (Step 0 Idle)) (slice_index_or values n every))
+
 -- the bit at a place
 abbrev pub bit_at : Bits → Option ℕ → Bool
 bit_at v None = false
-bit_at v (Some i) = bit i v.word
+bit_at v (Some i) = is_set i v
 
 -- the bit of an expression of a list
 abbrev pub bit_of : List Expression → Bits → Option Expression → Bool

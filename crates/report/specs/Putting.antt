@@ -1,9 +1,16 @@
--- Text that is put into a row of bytes.
-use Rattle.std.specs.Prelude.{◌≡◌, ℕ, ◌+◌, List, ◌++◌, length, take, drop}
+-- What is put into the text of a report.
+use Rattle.std.specs.Prelude.{ℕ, ◌+◌, ◌≤◌, Bool, cond, List, [], ◌++◌, length, codes, decimal}
+use Rattle.report.specs.declared.marks.Marks.{Marks}
+use Rattle.report.specs.Reported.{Findings, line, findings_in}
 
--- the text stands at a place, with what stood before it and behind it as it was; `after` is the place behind the text
-pub record Put (bytes : List ℕ) (at : ℕ) (text bytes' : List ℕ) (after : ℕ) : Type 0 where
-  pub ends : after ≡ at + length text
-  pub front : take after bytes' ≡ take at bytes ++ text
-  pub rest : drop after bytes' ≡ drop after bytes
-  pub long : length bytes' ≡ length bytes
+-- a text has room behind what is written
+abbrev pub RoomFor : List ℕ → List ℕ → Type 0
+RoomFor written text = length written + length text ≤ 8192
+
+-- what is written down of each node
+abbrev pub found_in : Marks → Findings
+found_in m = findings_in m.redundant.now m.dead.now m.sent.now
+
+-- the lines of a node in the two lists
+abbrev pub list_lines : ℕ → Bool → Bool → List ℕ
+list_lines n redundant dead = cond redundant (line (decimal n ++ codes " redundant")) [] ++ cond dead (line (decimal n ++ codes " dead")) []

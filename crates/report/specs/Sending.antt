@@ -1,22 +1,23 @@
 -- The numbers that the steps of a plan send, found for four variables at a time.
 --   sent_by     the variable that a node sends
 --   four_from   the kinds for four variables from the first on, as a pair of pairs
+--   in_order    the four values in the order of their variables
 --   one_of      one of four values
 --   sent_of     what is noted of a node: the value of its variable, if that is one of the four, else what was noted before
 --   SendsBelow  the step sends a variable below a limit that is fixed to c before it
 --   SentBelow   for every node, the number that it sends if its variable is below the limit and fixed
-use Rattle.std.specs.Prelude.{◌≡◌, ℕ, zero, suc, ◌+◌, ◌-◌, ◌<◌, cond, ◌&&◌, ◌↔◌, List, length, ℤ, Some, None, Option, nat_le, nat_lt, slice_index_or}
+use Rattle.std.specs.Prelude.{◌≡◌, ℕ, ◌+◌, ◌-◌, ◌<◌, cond, ◌&&◌, ◌↔◌, List, [], ◌∷◌, length, ℤ, Some, None, Option, nat_le, nat_lt, slice_index_or}
 use Rattle.plan.specs.declared.statement.Statement.{Statement}
 use Rattle.plan.specs.declared.statement.Statement.TheVariants.{Idle, Wait, Set, Copy, Send, Probe, Add, Sub, Min, Max}
 use Rattle.plan.specs.declared.node.Node.{Node}
 use Rattle.plan.specs.declared.node.Node.TheVariants.{Step, Fork}
 use Rattle.plan.specs.Drawn.{Drawn, node_at}
-use Rattle.pairs.specs.declared.both.Both.{Both}
+use Rattle.pairs.specs.declared.pair.Pair.{Pair}
 use Rattle.facts.specs.declared.constant.Constant.{Constant}
 use Rattle.facts.specs.declared.constant.Constant.TheVariants.{Unknown}
 use Rattle.facts.specs.declared.fixed.Fixed as declared
-use Rattle.pairs.specs.declared.pair.Pair.{Pair}
-use Rattle.report.specs.Fixing.{number_of, FixedTo, Fits32}
+use Rattle.facts.specs.Numbers.{number_of, Fits32}
+use Rattle.report.specs.Fixing.{FixedTo}
 
 abbrev sent_in : Statement → Option ℕ
 sent_in Idle = None
@@ -35,7 +36,7 @@ sent_by (Step r s) = sent_in s
 sent_by (Fork r b k) = None
 
 abbrev pub Four : Type 0
-Four = Both (Both Constant Constant) (Both Constant Constant)
+Four = Pair (Pair Constant Constant) (Pair Constant Constant)
 
 abbrev pub four_from : ℕ → Pair (Pair declared.Fixed declared.Fixed) (Pair declared.Fixed declared.Fixed)
 four_from v = record {
@@ -46,11 +47,12 @@ four_from v = record {
 abbrev pub unknown_four : Four
 unknown_four = record { left = record { left = Unknown; right = Unknown }; right = record { left = Unknown; right = Unknown } }
 
+-- the four values in the order of their variables
+abbrev pub in_order : Four → List Constant
+in_order x = x.left.left ∷ x.left.right ∷ x.right.left ∷ x.right.right ∷ []
+
 abbrev pub one_of : Four → ℕ → Constant
-one_of x zero = x.left.left
-one_of x (suc zero) = x.left.right
-one_of x (suc (suc zero)) = x.right.left
-one_of x (suc (suc (suc i))) = x.right.right
+one_of x i = slice_index_or (in_order x) i Unknown
 
 abbrev pub noted : ℕ → Four → Option ℤ → Option ℕ → Option ℤ
 noted first x before None = before

@@ -12,7 +12,7 @@ use Rattle.plan.specs.Drawn.{Drawn, node_at}
 use Rattle.plan.specs.Paths.{Whole, Fault}
 use Rattle.plan.specs.Statements.{assigns, uses}
 use Rattle.bitset.specs.declared.bits.Bits.{Bits}
-use Rattle.bitset.specs.Bits.{bit}
+use Rattle.bitset.specs.Bits.{bit, is_set}
 use Rattle.expressions.specs.Variables.{among}
 use Rattle.runs.specs.Runs.{Run}
 use Rattle.sweep.specs.Swept.{KeptFrom}
@@ -31,7 +31,7 @@ used_by (Fork r b k) = []
 -- the bit of the variable that a node assigns, if any
 abbrev pub bit_among : Bits → List ℕ → Bool
 bit_among x [] = false
-bit_among x (v ∷ vs) = bit v x.word
+bit_among x (v ∷ vs) = is_set v x
 
 module _ (p : Drawn) (v : ℕ) where
   abbrev pub Assigns : ℕ → Type 0

@@ -1,27 +1,17 @@
 // The value that a variable has before a node, if it is the same on every run.
 ghost use Rattle.std.specs.Prelude.{◌≡◌, MatchResult};
 ghost use Rattle.plan.specs.Stored.{seen};
-ghost use Rattle.report.specs.Fixing.{FixedBefore, FixedRefused, number_of, Fits32};
+ghost use Rattle.report.specs.Fixing.{FixedBefore, FixedRefused};
 
-use crate::finding::find_constants;
+use crate::finding::find;
 use facts::constant::Constant;
+use facts::fixed::Fixed;
 use plan::node::Direction;
 use plan::stored::Plan;
 use refusals::refusal::Refusal;
 
 // The variables are 0 to 15.
 const VARIABLES: u32 = 16;
-
-// The number that is known, if one is.
-pub(crate) fn known(value: Constant) -> Option<i32>
-    ensures value { result ≡ number_of value }
-    ensures fits { Fits32 result }
-{
-    match value {
-        Constant::Number(number) => Some(number),
-        Constant::Unknown | Constant::Unfixed => None,
-    }
-}
 
 // The number that a variable holds before a node on every run, or `None` where no one number is fixed.
 pub fn fixed(plan: &Plan, variable: u32, node: usize) -> Result<Option<i32>, Refusal>
@@ -33,6 +23,7 @@ pub fn fixed(plan: &Plan, variable: u32, node: usize) -> Result<Option<i32>, Ref
     if variable >= VARIABLES {
         return Err(Refusal::Operand);
     }
-    let values = find_constants(plan, variable, Direction::Forward)?;
-    Ok(known(values[node]))
+    let kind = Fixed { variable };
+    let values = find(plan, &kind, Direction::Forward, Constant::Unfixed)?;
+    Ok(values[node].number())
 }

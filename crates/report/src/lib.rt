@@ -5,6 +5,7 @@ pub mod event;
 mod finding;
 pub mod fixing;
 pub mod listing;
+mod marks;
 pub mod replay;
 pub mod reporting;
 mod sending;

@@ -1,49 +1,45 @@
 // The steps that may be struck.
-ghost use Rattle.std.specs.Prelude.{◌≡◌, ◌≤◌, length, MatchResult, slice_index_or};
-ghost use Rattle.plan.specs.declared.node.Node.TheVariants.{Step};
-ghost use Rattle.plan.specs.declared.statement.Statement.TheVariants.{Idle};
+ghost use Rattle.std.specs.Prelude.{◌≡◌, ◌≤◌, Bool, length, MatchResult};
+ghost use Rattle.plan.specs.declared.node.Node.{Node};
 ghost use Rattle.plan.specs.Stored.{seen};
-ghost use Rattle.bitset.specs.Bits.{every as every_bit};
+ghost use Rattle.bitset.specs.declared.bits.Bits.{Bits};
 ghost use Rattle.expressions.specs.Expressions.{listed, computed_by};
-ghost use Rattle.report.specs.Listing.{flag, Filled, bit_of, ListsRedundant, Refused};
+ghost use Rattle.report.specs.Listing.{Filled, TestedBy, marks, bit_of, ListsRedundant, Refused};
 ghost use Rattle.report.specs.Strikes.{StrikeLaw};
 ghost use Rattle.report.specs.Unread.{bit_among, assigned_by, ListsDead, DeadRefused};
 
-use crate::finding::find_bits;
+use crate::finding::find;
 use bitset::bits::Bits;
 use expressions::computing::node_computes;
 use expressions::numbering::number;
 use expressions::table::Expressions;
 use expressions::variables::target;
 use facts::available::Available;
+use facts::bitwise::Bitwise;
 use facts::dead::Dead;
 use plan::conditions::Conditions;
 use plan::node::{Direction, Node};
 use plan::stored::Plan;
 use refusals::refusal::Refusal;
 
+// Writes for each node whether it passes a test together with its value. The bytes 1 and 0 are what a list is asked for in.
+fn mark<F: Fn(Node, Bits) -> bool>(nodes: &[Node], values: &[Bits], test: F, out: &mut [u8])
+    requires along { (length nodes.now ≤ length values.now) × (length nodes.now ≤ length out.old) }
+    requires test { F.IsAlwaysCallable test }
+    ensures { (f : Node → Bits → Bool) → TestedBy (F.post test) nodes.now values.now f → Filled 0 (marks f nodes.now values.now) (length nodes.now) out.old out.new }
+{
+    for (n, node) in nodes.iter().enumerate() {
+        out[n] = u8::from(test(*node, values[n]));
+    }
+}
+
 // Whether a node's expression is available where `value` is.
 fn is_available(expressions: &Expressions, node: Node, value: Bits) -> bool
     ensures { result ≡ bit_of (listed expressions.now) value (computed_by node) }
 {
-    let Some(expression) = node_computes(node) else {
-        return false;
-    };
-    match expressions.position(expression) {
-        Some(place) => value.bit(place),
-        None => false,
-    }
-}
-
-// Writes for each node whether its expression is available before it.
-fn mark_available(nodes: &[Node], expressions: &Expressions, values: &[Bits], out: &mut [u8])
-    requires { (length nodes.now ≤ length values.now) × (length nodes.now ≤ length out.old) }
-    ensures { Filled 0 (λ n. flag (bit_of (listed expressions.now) (slice_index_or values.now n every_bit) (computed_by (slice_index_or nodes.now n (Step 0 Idle)))))
-        (length nodes.now) out.old out.new }
-{
-    for (n, node) in nodes.iter().enumerate() {
-        out[n] = u8::from(is_available(expressions, *node, values[n]));
-    }
+    node_computes(node)
+        .and_then(|expression| expressions.position(expression))
+        .is_some_and(|place| value.bit(place))
 }
 
 // Writes a byte for each node: 1 where the step computes an expression that is available before it on every run, else 0.
@@ -58,9 +54,10 @@ pub fn redundant(plan: &Plan, out: &mut [u8]) -> Result<(), Refusal>
     if out.len() < plan.nodes().len() {
         return Err(Refusal::Short);
     }
-    let kind = Available { expressions };
-    let values = find_bits(plan, kind, Direction::Forward, Bits::none())?;
-    mark_available(plan.nodes(), &expressions, &values, out);
+    let kind = Bitwise(Available { expressions });
+    let values = find(plan, &kind, Direction::Forward, Bits::none())?;
+    let test = |node, value| is_available(&expressions, node, value);
+    mark(plan.nodes(), &values, test, out);
     Ok(())
 }
 
@@ -71,21 +68,7 @@ fn is_dead(node: Node, value: Bits) -> bool
     let Node::Step(_, statement) = node else {
         return false;
     };
-    match target(statement) {
-        Some(variable) => value.bit(variable as usize),
-        None => false,
-    }
-}
-
-// Writes for each node whether it assigns a variable that is dead behind it.
-fn mark_dead(nodes: &[Node], values: &[Bits], out: &mut [u8])
-    requires { (length nodes.now ≤ length values.now) × (length nodes.now ≤ length out.old) }
-    ensures { Filled 0 (λ n. flag (bit_among (slice_index_or values.now n every_bit) (assigned_by (slice_index_or nodes.now n (Step 0 Idle)))))
-        (length nodes.now) out.old out.new }
-{
-    for (n, node) in nodes.iter().enumerate() {
-        out[n] = u8::from(is_dead(*node, values[n]));
-    }
+    target(statement).is_some_and(|variable| value.bit(variable as usize))
 }
 
 // Writes a byte for each node: 1 where the step assigns a variable that is dead behind it on every run, else 0.
@@ -99,7 +82,7 @@ pub fn dead(plan: &Plan, conditions: Conditions, out: &mut [u8]) -> Result<(), R
         return Err(Refusal::Short);
     }
     let start = Bits::except(conditions.kept);
-    let values = find_bits(plan, Dead {}, Direction::Backward, start)?;
-    mark_dead(plan.nodes(), &values, out);
+    let values = find(plan, &Bitwise(Dead {}), Direction::Backward, start)?;
+    mark(plan.nodes(), &values, is_dead, out);
     Ok(())
 }

@@ -7,14 +7,17 @@ ghost use Rattle.plan.specs.Stored.{seen};
 ghost use Rattle.report.specs.Replayed.{call_in, calls_in, kept_by, kept_after, Promised};
 
 use crate::event::{Event, Subject};
-use crate::finding::{find_bits, find_constants};
+use crate::finding::find;
 use crate::fixing::fixed;
 use crate::listing::{dead, redundant};
 use crate::reporting::{TEXT, report};
 use bitset::bits::Bits;
 use expressions::numbering::number;
 use facts::available::Available;
+use facts::bitwise::Bitwise;
+use facts::constant::Constant;
 use facts::dead::Dead;
+use facts::fixed::Fixed;
 use kinds::effect::Effect;
 use kinds::kind::Kind;
 use plan::conditions::Conditions;
@@ -29,13 +32,15 @@ fn sweep_for(plan: &Plan, subject: Subject, direction: Direction) -> Result<(), 
     match subject {
         Subject::Available => {
             let expressions = number(plan.nodes())?;
-            find_bits(plan, Available { expressions }, direction, Bits::none())?;
+            let kind = Bitwise(Available { expressions });
+            find(plan, &kind, direction, Bits::none())?;
         }
         Subject::Dead => {
-            find_bits(plan, Dead {}, direction, Bits::every())?;
+            find(plan, &Bitwise(Dead {}), direction, Bits::every())?;
         }
         Subject::Fixed(variable) => {
-            find_constants(plan, variable, direction)?;
+            let kind = Fixed { variable };
+            find(plan, &kind, direction, Constant::Unfixed)?;
         }
     }
     Ok(())
@@ -47,7 +52,8 @@ fn report_only(plan: &Plan, conditions: Conditions) -> Result<usize, Refusal> {
     report(plan, conditions, &mut text)
 }
 
-// Does what an event says. What it asks for is found, and dropped.
+// Does what an event says. What it asks for is found, and dropped. An event is a value, and this the one place that tells its
+// kinds apart, since the contracts speak of rows of events.
 fn perform(plan: &mut Plan, conditions: &mut Conditions, event: Event)
     ensures plan { seen plan.new ≡ after_all (seen plan.old) (call_in event) }
     ensures conditions { conditions.new.kept ≡ kept_by conditions.old.kept event }

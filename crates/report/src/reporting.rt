@@ -5,8 +5,9 @@ ghost use Rattle.report.specs.Listing.{Refused};
 ghost use Rattle.report.specs.Reported.{Reports};
 
 use crate::listing::{dead, redundant};
+use crate::marks::Marks;
 use crate::sending::find_sent;
-use crate::text::put_report;
+use crate::text::Page;
 use plan::conditions::Conditions;
 use plan::stored::{NODES, Plan};
 use refusals::refusal::Refusal;
@@ -31,5 +32,10 @@ pub fn report(plan: &Plan, conditions: Conditions, out: &mut [u8]) -> Result<usi
     dead(plan, conditions, &mut unread)?;
     let mut sent = [None; NODES];
     find_sent(plan, &mut sent)?;
-    Ok(put_report(out, &listed[0..nodes], &unread[0..nodes], &sent))
+    let marks = Marks {
+        redundant: &listed[0..nodes],
+        dead: &unread[0..nodes],
+        sent: &sent,
+    };
+    Ok(Page::report(&marks).copy_to(out))
 }

@@ -4,24 +4,21 @@ ghost use Rattle.plan.specs.declared.node.Node.TheVariants.{Step};
 ghost use Rattle.plan.specs.declared.statement.Statement.TheVariants.{Idle};
 ghost use Rattle.plan.specs.Paths.{Fault};
 ghost use Rattle.plan.specs.Stored.{seen};
-ghost use Rattle.report.specs.Fixing.{Fits32};
+ghost use Rattle.facts.specs.Numbers.{Fits32};
 ghost use Rattle.report.specs.Listing.{Filled};
-ghost use Rattle.report.specs.Sending.{sent_by, four_from, unknown_four, one_of, sent_of, SentBelow};
+ghost use Rattle.report.specs.Sending.{sent_by, four_from, unknown_four, in_order, sent_of, SentBelow};
 
-use crate::fixing::known;
+use crate::finding::find;
 use facts::constant::Constant;
 use facts::fixed::Fixed;
 use facts::four::{TwoConstants, TwoFixed};
-use kinds::effects::passing;
-use pairs::both::Both;
 use pairs::pair::Pair;
 use plan::node::{Direction, Node};
 use plan::statement::Statement;
-use plan::stored::{NODES, Plan, REGIONS};
+use plan::stored::Plan;
 use refusals::refusal::Refusal;
-use sweep::sweeping::sweep;
 
-type FourConstants = Both<TwoConstants, TwoConstants>;
+type FourConstants = Pair<TwoConstants, TwoConstants>;
 
 // The variable that a node sends.
 fn variable_sent(node: Node) -> Option<u32>
@@ -55,16 +52,16 @@ fn four_fixed(first: u32) -> Pair<TwoFixed, TwoFixed>
     Pair { left, right }
 }
 
-// One of four values.
-fn pick(values: FourConstants, place: u32) -> Constant
-    ensures { result ≡ one_of values place }
+// The four values in the order of their variables.
+fn in_order(values: FourConstants) -> [Constant; 4]
+    ensures { result ≡ in_order values }
 {
-    match place {
-        0 => values.left.left,
-        1 => values.left.right,
-        2 => values.right.left,
-        _ => values.right.right,
-    }
+    [
+        values.left.left,
+        values.left.right,
+        values.right.left,
+        values.right.right,
+    ]
 }
 
 // What is noted of a node: the value of the variable that it sends, if that is one of the four.
@@ -74,8 +71,8 @@ fn note(node: Node, first: u32, values: FourConstants, before: Option<i32>) -> O
     ensures fits { Fits32 result }
 {
     match variable_sent(node) {
-        Some(variable) if first <= variable && variable < first + 4 => {
-            known(pick(values, variable - first))
+        Some(variable) if (first..first + 4).contains(&variable) => {
+            in_order(values)[(variable - first) as usize].number()
         }
         _ => before,
     }
@@ -103,26 +100,15 @@ fn find_four(plan: &Plan, first: u32, sent: &mut [Option<i32>]) -> Result<(), Re
     ensures { MatchResult result (λ _. SentBelow (seen plan.now) (first + 4) sent.new) (λ e. Fault (seen plan.now) e) }
 {
     let kind = four_fixed(first);
-    let two = Both {
+    let two = Pair {
         left: Constant::Unfixed,
         right: Constant::Unfixed,
     };
-    let unfixed = Both {
+    let unfixed = Pair {
         left: two,
         right: two,
     };
-    let mut values = [unfixed; NODES];
-    let mut effects = [passing(&kind); NODES];
-    let mut regions = [passing(&kind); REGIONS];
-    sweep(
-        plan,
-        &kind,
-        Direction::Forward,
-        unfixed,
-        &mut values,
-        &mut effects,
-        &mut regions,
-    )?;
+    let values = find(plan, &kind, Direction::Forward, unfixed)?;
     note_all(plan.nodes(), first, &values, sent);
     Ok(())
 }
@@ -133,8 +119,8 @@ pub(crate) fn find_sent(plan: &Plan, sent: &mut [Option<i32>]) -> Result<(), Ref
     requires none { SentBelow (seen plan.now) 0 sent.old }
     ensures { MatchResult result (λ _. SentBelow (seen plan.now) 16 sent.new) (λ e. Fault (seen plan.now) e) }
 {
-    find_four(plan, 0, sent)?;
-    find_four(plan, 4, sent)?;
-    find_four(plan, 8, sent)?;
-    find_four(plan, 12, sent)
+    for first in (0..16).step_by(4) {
+        find_four(plan, first, sent)?;
+    }
+    Ok(())
 }

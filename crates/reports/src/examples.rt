@@ -1,10 +1,11 @@
-// A set threshold; a fork, with two readings of one probe in its first branch and one step in its second; then a send.
+// The lists and the report of the sample plan, and what they refuse.
 use facts::constant::Constant;
 use facts::fixed::Fixed;
 use kinds::effects::passing;
 use plan::call::Call;
 use plan::conditions::Conditions;
 use plan::node::Direction;
+use plan::rows::draw;
 use plan::statement::Statement;
 use plan::stored::Plan;
 use refusals::refusal::Refusal;
@@ -13,38 +14,19 @@ use report::fixing::fixed;
 use report::listing::{dead, redundant};
 use report::replay::replay;
 use report::reporting::report;
+use sample::CALLS;
 use std::test::Fail;
-
-fn draw(rt: &HostRuntime) -> Result<Plan, Fail> {
-    let mut plan = Plan::new(rt.alloc())?;
-    plan.lay(0, Statement::Set(2, -4))?;
-    plan.fork(0, 2)?;
-    plan.lay(0, Statement::Send(2))?;
-    plan.arc(0, 1)?;
-    plan.arc(1, 2)?;
-    plan.ends(0, 0, 2)?;
-    plan.lay(1, Statement::Probe(0, 3))?;
-    plan.lay(1, Statement::Probe(1, 3))?;
-    plan.arc(3, 4)?;
-    plan.ends(1, 3, 4)?;
-    plan.lay(2, Statement::Idle)?;
-    plan.ends(2, 5, 5)?;
-    Ok(plan)
-}
 
 // Whether the report is this text.
 fn reports(plan: &Plan, conditions: Conditions, text: &[u8]) -> Result<bool, Fail> {
     let mut out = [0; 8192];
     let length = report(plan, conditions, &mut out)?;
-    match out.get(0..length) {
-        Some(written) => Ok(written == text),
-        None => Ok(false),
-    }
+    Ok(out.get(..length) == Some(text))
 }
 
 #[test]
 fn a_plan_takes_changes_after_a_report(rt: HostRuntime) -> Result<(), Fail> {
-    let mut plan = draw(&rt)?;
+    let mut plan = draw(rt.alloc(), &CALLS)?.plan;
     let mut conditions = Conditions::new();
     conditions.keep(3);
     assert!(rt;
@@ -76,7 +58,7 @@ fn a_plan_takes_changes_after_a_report(rt: HostRuntime) -> Result<(), Fail> {
 
 #[test]
 fn short_buffers_are_refused_and_stay(rt: HostRuntime) -> Result<(), Fail> {
-    let plan = draw(&rt)?;
+    let plan = draw(rt.alloc(), &CALLS)?.plan;
     let mut text = [7; 8191];
     assert_eq!(rt;
         report(&plan, Conditions::new(), &mut text),
@@ -107,7 +89,7 @@ fn refusals_come_in_order(rt: HostRuntime) -> Result<(), Fail> {
     );
     assert_eq!(rt; redundant(&new, &mut none), Err(Refusal::NoEnds(0)));
     assert_eq!(rt; fixed(&new, 16, 0), Err(Refusal::Missing));
-    let plan = draw(&rt)?;
+    let plan = draw(rt.alloc(), &CALLS)?.plan;
     assert_eq!(rt; fixed(&plan, 16, 6), Err(Refusal::Missing));
     assert_eq!(rt; fixed(&plan, 16, 5), Err(Refusal::Operand));
     assert_eq!(rt; fixed(&plan, 15, 5), Ok(None));

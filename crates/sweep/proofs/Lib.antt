@@ -1,10 +1,11 @@
+pub mod Kept
 pub mod Slots
 pub mod Ranks
 pub mod Turns
 pub mod Agreeing
-pub mod Putting
 pub mod Assembled
 pub mod Meets
+pub mod Folds
 pub mod Branches
 pub mod Gathering
 pub mod Homes

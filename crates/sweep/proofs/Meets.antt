@@ -1,6 +1,5 @@
 -- Meets of rows of values.
-use Rattle.std.proofs.Common.{◌≡◌, ℕ, zero, suc, ◌+◌, ◌-◌, ◌<◌, ◌≤◌, List, [], ◌∷◌, length, get_or, take, drop, sym, refl, ap, ◌∙◌, arith, drop-cons}
-use Rattle.std.proofs.lemmas.List.{at_drop_more}
+use Rattle.std.proofs.Common.{◌≡◌, ℕ, zero, suc, ◌+◌, ◌-◌, ◌≤◌, List, length, take, drop, refl, ap, ◌∙◌, arith, drop-cons}
 use Rattle.kinds.specs.declared.effect.Effect.{Effect}
 use Rattle.kinds.specs.Kinds.{Algebra}
 use Rattle.kinds.specs.Effects.{passing}
@@ -11,24 +10,6 @@ use Rattle.sweep.specs.Slots.{forced_slot}
 use Rattle.sweep.specs.Valuing.{met_of, met_but}
 
 module _ {V G : Type 0} (a : Algebra V G) where
-  pub met_more : (vs : List (Effect G V)) (i : ℕ) (v : Effect G V) → i < length vs → v ≡ get_or vs i v → met_of a (drop i vs) ≡ a.meet v.forced (met_of a (drop (i + 1) vs))
-  met_more vs i v h is = at_drop_more (met_of a) vs i v h ∙ ap (λ (u : Effect G V). a.meet u.forced (met_of a (drop (i + 1) vs))) (sym is)
-
-  pub met_past : (vs : List (Effect G V)) (i : ℕ) → length vs ≤ i → met_but a vs i ≡ met_of a vs
-  met_past [] i h = refl
-  met_past (v ∷ vs) zero h = absurd (omega arith)
-  met_past (v ∷ vs) (suc i) h = ap (a.meet v.forced) (met_past vs i (omega arith))
-
-  pub but_first : (vs : List (Effect G V)) (i : ℕ) (v : Effect G V) → i < length vs → met_but a (drop i vs) 0 ≡ met_of a (drop (i + 1) vs)
-  but_first vs i v h = at_drop_more (λ (us : List (Effect G V)). met_but a us 0) vs i v h
-
-  pub but_more : (vs : List (Effect G V)) (one i : ℕ) (v : Effect G V) → i < one → i < length vs → v ≡ get_or vs i v
-      → met_but a (drop i vs) (one - i) ≡ a.meet v.forced (met_but a (drop (i + 1) vs) (one - (i + 1)))
-  but_more vs one i v l h is =
-      let less : one - i ≡ suc (one - (i + 1)) = omega arith in
-      ap (met_but a (drop i vs)) less ∙ at_drop_more (λ (us : List (Effect G V)). met_but a us (suc (one - (i + 1)))) vs i v h
-      ∙ ap (λ (u : Effect G V). a.meet u.forced (met_but a (drop (i + 1) vs) (one - (i + 1)))) (sym is)
-
   -- the meet over the branches of a fork, taken from their slots
   pub met_slots : (vs : List (Effect G V)) (b k : ℕ) → b + k ≤ length vs → met_of a (take k (drop b vs)) ≡ met a (forced_slot a vs) (count_from b k)
   met_slots vs b zero h = refl

@@ -1,5 +1,7 @@
 -- Forks by their numbers, and the order in which their branches are numbered.
-use Rattle.std.proofs.Common.{◌≡◌, ℕ, zero, suc, ◌+◌, ◌<◌, ◌≤◌, true, ◌⊎◌, List, [], ◌∷◌, length, get_or, take, sym, refl, ap, ◌∙◌, subst, inl, inr, arith}
+use mathlib.Core.Logic.{∥∥₁_elim}
+use Rattle.std.proofs.Common.{◌≡◌, ℕ, zero, suc, ◌+◌, ◌<◌, ◌≤◌, true, ◌⊎◌, List, [], ◌∷◌, length, get_or, take, sym, refl, ap, ◌∙◌, subst, inl, inr, Some, None, Option, MatchOption, arith}
+use Rattle.std.specs.List.{AllWithin, HoldsAt}
 use Rattle.std.proofs.lemmas.Bool.{cases_order, true≢false}
 use Rattle.plan.specs.declared.node.Node.{Node}
 use Rattle.plan.specs.declared.node.Node.TheVariants.{Step, Fork}
@@ -73,9 +75,6 @@ module _ (p : Drawn) (s : Sound p) where
   region_before k n h l = omega (arith, s.placed k l, before_step p.nodes (Step 0 Idle) k n h l)
 
 -- what the code finds of a fork and its branch
-pub branch_owned : (p : Drawn) (f q : ℕ) → Owns p f q → Branch (node_at p f) q
-branch_owned p f q o = subst (λ (x : Node). Branch x q) (sym o.is) (o.from, o.to)
-
 pub owned_branch : (p : Drawn) (f q : ℕ) → f < length p.nodes → Branch (node_at p f) q → Owns p f q
 owned_branch p f q h b = by (node_at p f) refl b
   where
@@ -83,10 +82,17 @@ owned_branch p f q h b = by (node_at p f) refl b
     by (Step r s) is b = absurd b
     by (Fork r first count) is b = record { region = r; first = first; count = count; there = h; is = is; from = b.0; to = b.1 }
 
--- every region but the outermost is a branch of some fork
-pub some_owner : (p : Drawn) → Sound p → Whole p → (q : ℕ) → 0 < q → q < length p.ends → (f : ℕ) × Owns p f q
-some_owner p s w q h l = by ((fit p s w Forward).outer q l)
+-- every region but the outermost is a branch of some fork, which a search for the first such node finds
+pub fork_found : (p : Drawn) → Sound p → ∥ Whole p ∥₁ → (q : ℕ) → 0 < q → q < length p.ends → (found : Option ℕ)
+    → MatchOption found (AllWithin (λ x. Branch x q → ⊥) p.nodes 0 (length p.nodes))
+    (λ f. (f < length p.nodes) × HoldsAt (λ x. Branch x q) p.nodes f × AllWithin (λ x. Branch x q → ⊥) p.nodes 0 f)
+    → (f : ℕ) × (found ≡ Some f) × (f < length p.nodes) × Branch (node_at p f) q
+fork_found p s w q h l (Some f) t = (f, refl, t.0, t.1 (Step 0 Idle))
+fork_found p s w q h l None none = absurd (∥∥₁_elim w (λ x y. absurd x) (λ v. by ((fit p s v Forward).outer q l)))
   where
-    by : (q ≡ 0) ⊎ ((f : ℕ) × (qs : List ℕ) × Forks p f qs × In q qs) → (f : ℕ) × Owns p f q
-    by (inl e) = absurd (omega (arith, h, e))
-    by (inr (f, qs, fork, i)) = let t = in_pick i in (f, owns p f q qs t.0 fork t.1)
+    by : (q ≡ 0) ⊎ ((f : ℕ) × (qs : List ℕ) × Forks p f qs × In q qs) → ⊥
+    by (inl e) = omega (arith, h, e)
+    by (inr (f, qs, fork, i)) =
+        let t = in_pick i in
+        let o = owns p f q qs t.0 fork t.1 in
+        none f (Step 0 Idle) (omega arith) o.there (subst (λ (x : Node). Branch x q) (sym o.is) (o.from, o.to))

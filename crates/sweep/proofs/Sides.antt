@@ -1,9 +1,9 @@
 -- The side values of one fork's branches more.
-use Rattle.std.proofs.Common.{◌≡◌, ℕ, ◌+◌, ◌-◌, ◌<◌, ◌≤◌, ◌⊎◌, List, length, set, sym, ap, ◌∙◌, subst, ap₂, inl, inr, arith, length-set, get_or-set_same}
+use Rattle.std.proofs.Common.{◌≡◌, ℕ, ◌+◌, ◌-◌, ◌<◌, ◌≤◌, ◌⊎◌, List, length, sym, ap, ◌∙◌, subst, ap₂, inl, inr, arith}
 use Rattle.std.proofs.lemmas.Bool.{cases_eq}
 use Rattle.plan.specs.declared.node.Node.TheVariants.{Fork}
 use Rattle.plan.specs.Drawn.{Drawn, node_at, region_of, regions_before, Sound}
-use Rattle.plan.specs.Paths.{Whole}
+use Rattle.plan.specs.Paths.{Ended}
 use Rattle.plan.proofs.Forks.{branches_within, region_there}
 use Rattle.kinds.specs.declared.effect.Effect.{Effect}
 use Rattle.kinds.specs.Kinds.{Algebra}
@@ -15,14 +15,7 @@ use Rattle.sweep.proofs.Homes.{home_lies}
 use Rattle.sweep.proofs.Meets.{but_slots}
 use Rattle.sweep.proofs.Owners.{owns, owned_before, owned_within, picked_from, region_before}
 
-module _ {V G : Type 0} (a : Algebra V G) (p : Drawn) (s : Sound p) (w : Whole p) (forces : List (Effect G V)) where
-  pub sides_none : (vs : List V) → length vs ≡ length p.nodes → 0 < length p.ends → SidesTo a p forces (set vs (home p 0) a.top) 0
-  sides_none vs many h = record {
-    outermost = get_or-set_same vs (home p 0) a.top a.top (omega (arith, (home_lies p s w 0 h).0, many));
-    branch = λ f q qs rs l fork pick. absurd (omega arith);
-    long = length-set vs (home p 0) a.top ∙ many;
-  }
-
+module _ {V G : Type 0} (a : Algebra V G) (p : Drawn) (s : Sound p) (w : Ended p) (forces : List (Effect G V)) where
   pub sides_step : (vs : List V) (n : ℕ) → ((r b k : ℕ) → node_at p n ≡ Fork r b k → ⊥) → SidesTo a p forces vs n → SidesTo a p forces vs (n + 1)
   sides_step vs n none o = record { outermost = o.outermost; branch = λ f q qs rs l fork pick. by f q qs rs l fork pick (cases_eq f n); long = o.long }
     where

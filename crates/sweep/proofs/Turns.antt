@@ -1,5 +1,5 @@
 -- One arc more of a round.
-use Rattle.std.proofs.Common.{◌≡◌, ℕ, ◌+◌, ◌<◌, ◌≤◌, Bool, true, false, List, length, MatchBool, sym, refl, ap, ◌∙◌, subst, arith, length-set, get_or-set_other, get_or-set_same, below_more}
+use Rattle.std.proofs.Common.{◌≡◌, ℕ, ◌+◌, ◌<◌, Bool, true, false, List, length, MatchBool, sym, ap, ◌∙◌, subst, arith, length-set, get_or-set_other, get_or-set_same, below_more}
 use Rattle.plan.specs.declared.node.Arc.{Arc}
 use Rattle.plan.specs.declared.node.Direction.{Direction}
 use Rattle.plan.specs.Drawn.{Drawn, node_at, arc_at, region_of, Joins, Sound}
@@ -13,10 +13,7 @@ use Rattle.sweep.specs.Slots.{slot}
 use Rattle.sweep.specs.Rounds.{rank_sum, brought, Lowers, Settled, SettledTo, Lowering}
 
 module _ {V G : Type 0} (a : Algebra V G) (p : Drawn) (regions : List (Effect G V)) (d : Direction) (r : ℕ) where
-  pub lowering_same : (es : List (Effect G V)) → Lowering a p regions d r es es
-  lowering_same es = record { lowered = λ l. l; others = λ n h o. refl; long = refl }
-
-  pub lowering_then : (es fs gs : List (Effect G V)) → Lowering a p regions d r es fs → Lowering a p regions d r fs gs → Lowering a p regions d r es gs
+  lowering_then : (es fs gs : List (Effect G V)) → Lowering a p regions d r es fs → Lowering a p regions d r fs gs → Lowering a p regions d r es gs
   lowering_then es fs gs l m = record {
     lowered = λ h. m.lowered (l.lowered h);
     others = λ n h o. m.others n h o ∙ l.others n h o;
@@ -24,7 +21,7 @@ module _ {V G : Type 0} (a : Algebra V G) (p : Drawn) (regions : List (Effect G 
   }
 
   -- an arc that lowers
-  pub lowering_one : Sound p → (before after : List (Effect G V)) (k : ℕ) (arc : Arc) → k < length p.arcs → arc ≡ turned d (arc_at p k)
+  lowering_one : Sound p → (before after : List (Effect G V)) (k : ℕ) (arc : Arc) → k < length p.arcs → arc ≡ turned d (arc_at p k)
       → length before ≡ length p.nodes → Lowers a p regions r before after arc → Lowering a p regions d r before after
   lowering_one s before after k arc h is many l =
       let j = subst (Joins p) (sym is) (joins_turned p d (arc_at p k) (s.joined k h)) in
@@ -53,9 +50,6 @@ module _ {V G : Type 0} (a : Algebra V G) (p : Drawn) (regions : List (Effect G 
   told_same true start es n t f = t
   told_same false start es n t f = (t.0, below_more _ _ t.1 (subst (λ (fs : List (Effect G V)). Settled a p regions r fs (turned d (arc_at p n))) t.0 f))
 
-  pub turn_none : (start : List (Effect G V)) → Turn false start start 0
-  turn_none start = record { lowering = lowering_same start; told = (refl, λ k h. absurd (omega arith)) }
-
   pub turn_new : Sound p → (b : Bool) (start es new : List (Effect G V)) (n : ℕ) (arc : Arc) → n < length p.arcs → arc ≡ turned d (arc_at p n)
       → length start ≡ length p.nodes → Lowers a p regions r es new arc → Turn b start es n → Turn true start new (n + 1)
   turn_new s b start es new n arc h is many l t = record {
@@ -68,7 +62,3 @@ module _ {V G : Type 0} (a : Algebra V G) (p : Drawn) (regions : List (Effect G 
   turn_same b start es new n arc is o t =
       subst (λ (fs : List (Effect G V)). Turn b start fs (n + 1)) (sym o.0)
       (record { lowering = t.lowering; told = told_same b start es n t.told (subst (Settled a p regions r es) is o.1) })
-
-  pub turn_all : (b : Bool) (start es : List (Effect G V)) (n m : ℕ) → m ≤ n → Turn b start es n → MatchBool b (rank_sum a es < rank_sum a start) (SettledTo a p regions d r es m)
-  turn_all true start es n m h t = t.told
-  turn_all false start es n m h t = subst (λ (fs : List (Effect G V)). SettledTo a p regions d r fs m) (sym t.told.0) (λ k l. t.told.1 k (omega arith))

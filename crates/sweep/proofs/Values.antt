@@ -1,5 +1,5 @@
 -- The values of one region more.
-use Rattle.std.proofs.Common.{◌≡◌, ℕ, ◌+◌, ◌<◌, ◌⊎◌, List, length, sym, refl, ap, ◌∙◌, subst, ap₂, inl, inr, arith}
+use Rattle.std.proofs.Common.{◌≡◌, ℕ, ◌+◌, ◌<◌, ◌⊎◌, List, length, sym, ap, ◌∙◌, subst, ap₂, inl, inr, arith}
 use Rattle.std.proofs.lemmas.Bool.{cases_eq}
 use Rattle.plan.specs.Drawn.{Drawn, Lies, Sound}
 use Rattle.kinds.specs.declared.effect.Effect.{Effect}
@@ -13,14 +13,6 @@ use Rattle.sweep.specs.Valuing.{home, ForcedFrom, SidesTo, ValuedTo}
 use Rattle.sweep.proofs.Owners.{Owns, owns, owned_above, owned_within}
 
 module _ {V G : Type 0} (a : Algebra V G) (p : Drawn) (s : Sound p) (start : V) (nodes : List (Effect G V)) (sides : List V) where
-  pub valued_none : length sides ≡ length p.nodes → ValuedTo a p start nodes sides sides 0
-  valued_none many = record {
-    outermost = λ k h l. absurd (omega arith);
-    branch = λ f q k qs rs h fork pick l. absurd (omega arith);
-    rest = λ k h l. refl;
-    long = many;
-  }
-
   pub valued_more : (vs us : List V) (r : ℕ) (base side : V) → (r ≡ 0 → base ≡ start) → ((f : ℕ) → Owns p f r → base ≡ value_slot a vs f) → side ≡ value_slot a sides (home p r)
       → PutTo a.top p r (λ n. a.meet (act a (slot a nodes n) base) side) vs us (length p.nodes) → ValuedTo a p start nodes sides vs r → ValuedTo a p start nodes sides us (r + 1)
   valued_more vs us r base side outer inner is put o = record {

@@ -4,92 +4,80 @@ ghost use Rattle.plan.specs.Drawn.{node_at};
 ghost use Rattle.plan.specs.Stored.{seen};
 ghost use Rattle.runs.specs.Actions.{steps_of};
 ghost use Rattle.runs.specs.Scheme.{node_forces, all_force};
+ghost use Rattle.sweep.specs.Kept.{Same};
 ghost use Rattle.sweep.specs.Slots.{forced_slot};
 ghost use Rattle.sweep.specs.Valuing.{met_of, met_but, ForcedFrom};
 
+use crate::buffers::Sweeping;
 use kinds::effect::Effect;
 use kinds::kind::Kind;
 use plan::node::Node;
-use plan::stored::Plan;
 
 // The meet of what a row of effects forces.
-pub(crate) fn meet_all<K: Kind>(kind: &K, effects: &[Effect<K::Gate, K::Value>]) -> K::Value
-    ensures { result ≡ met_of (K.Kind.algebra kind.now) effects.now }
+pub(crate) fn meet_all<K: Kind>(kind: &K, row: &[Effect<K::Gate, K::Value>]) -> K::Value
+    ensures { result ≡ met_of (K.Kind.algebra kind.now) row.now }
 {
-    let mut all = kind.top();
-    for i in (0..effects.len()).rev() {
-        let effect = effects[i];
-        all = kind.meet(effect.forced, all);
-    }
-    all
+    row.iter()
+        .rev()
+        .fold(kind.top(), |all, effect| kind.meet(effect.forced, all))
 }
 
 // The meet of what all but one of a row of effects force.
 pub(crate) fn meet_others<K: Kind>(
     kind: &K,
-    effects: &[Effect<K::Gate, K::Value>],
+    row: &[Effect<K::Gate, K::Value>],
     one: usize,
 ) -> K::Value
-    ensures { result ≡ met_but (K.Kind.algebra kind.now) effects.now one }
+    requires { one < length row.now }
+    ensures { result ≡ met_but (K.Kind.algebra kind.now) row.now one }
 {
-    if one >= effects.len() {
-        return meet_all(kind, effects);
-    }
-    let mut all = meet_all(kind, &effects[one + 1..effects.len()]);
-    for i in (0..one).rev() {
-        let effect = effects[i];
-        all = kind.meet(effect.forced, all);
-    }
-    all
+    row[..one]
+        .iter()
+        .rev()
+        .fold(meet_all(kind, &row[one + 1..]), |all, effect| {
+            kind.meet(effect.forced, all)
+        })
 }
 
-// What a node adds: a step what it forces, a fork what its branches force.
-fn forced_by<K: Kind>(
-    plan: &Plan,
-    kind: &K,
-    node: usize,
-    forces: &[Effect<K::Gate, K::Value>],
-) -> K::Value
-    requires { (node < length (seen plan.now).nodes) × (length forces.now ≡ length (seen plan.now).ends) }
-    ensures { result ≡ node_forces (K.Kind.algebra kind.now) (steps_of (K.Kind.algebra kind.now) (seen plan.now))
-        (forced_slot (K.Kind.algebra kind.now) forces.now) node (node_at (seen plan.now) node) }
-{
-    match plan.nodes()[node] {
-        Node::Step(_, statement) => kind.effect(node, statement).forced,
-        Node::Fork(_, first, count) => meet_all(kind, &forces[first..first + count]),
-    }
-}
-
-// What the nodes of a region force together, once that is known of the regions of higher number.
-fn region_forces<K: Kind>(
-    plan: &Plan,
-    kind: &K,
-    region: usize,
-    forces: &[Effect<K::Gate, K::Value>],
-) -> K::Value
-    requires { length forces.now ≡ length (seen plan.now).ends }
-    ensures { result ≡ all_force (K.Kind.algebra kind.now) (steps_of (K.Kind.algebra kind.now) (seen plan.now))
-        (forced_slot (K.Kind.algebra kind.now) forces.now) region 0 (seen plan.now).nodes }
-{
-    let nodes = plan.nodes();
-    let mut all = kind.top();
-    for n in (0..nodes.len()).rev() {
-        if nodes[n].region() == region {
-            all = kind.meet(forced_by(plan, kind, n, forces), all);
+impl<K: Kind> Sweeping<'_, K> {
+    // What a node adds: a step what it forces, a fork what its branches force.
+    fn forced_by(&self, node: usize) -> K::Value
+        requires { node < length (seen self.now.plan.now).nodes }
+        ensures { let a = K.Kind.algebra self.now.kind.now in let p = seen self.now.plan.now in
+            result ≡ node_forces a (steps_of a p) (forced_slot a self.now.regions.now) node (node_at p node) }
+    {
+        match self.plan.nodes()[node] {
+            Node::Step(_, statement) => self.kind.effect(node, statement).forced,
+            Node::Fork(_, first, count) => meet_all(self.kind, self.branches(first, count)),
         }
     }
-    all
-}
 
-// Puts what the steps in each region force into the region's slot, the highest number first.
-pub(crate) fn gather<K: Kind>(plan: &Plan, kind: &K, forces: &mut [Effect<K::Gate, K::Value>])
-    requires { length forces.old ≡ length (seen plan.now).ends }
-    ensures { ForcedFrom (K.Kind.algebra kind.now) (seen plan.now) 0 forces.new }
-{
-    for region in (0..forces.len()).rev() {
-        forces[region] = Effect {
-            gate: kind.shut(),
-            forced: region_forces(plan, kind, region, forces),
-        };
+    // What the nodes of a region force together, once that is known of the regions of higher number.
+    fn region_forces(&self, region: usize) -> K::Value
+        ensures { let a = K.Kind.algebra self.now.kind.now in let p = seen self.now.plan.now in
+            result ≡ all_force a (steps_of a p) (forced_slot a self.now.regions.now) region 0 p.nodes }
+    {
+        let mut all = self.kind.top();
+        for (n, node) in self.plan.nodes().iter().enumerate() {
+            if node.region() == region {
+                all = self.kind.meet(all, self.forced_by(n));
+            }
+        }
+        all
+    }
+
+    // Puts what the steps in each region force into the region's slot, the highest number first.
+    pub(crate) fn gather(&mut self)
+        ensures same { Same self.old self.new }
+        ensures forced { ForcedFrom (K.Kind.algebra self.old.kind.now) (seen self.old.plan.now) 0 self.new.regions.now }
+    {
+        // By number, since each slot is written from those of higher number.
+        for region in (0..self.regions.len()).rev() {
+            let forced = self.region_forces(region);
+            self.regions[region] = Effect {
+                gate: self.kind.shut(),
+                forced,
+            };
+        }
     }
 }

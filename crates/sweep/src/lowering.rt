@@ -1,83 +1,67 @@
 // Lowers the effects of the nodes of a region along its arcs, until no arc brings anything new.
-ghost use Rattle.std.specs.Prelude.{◌≡◌, ℕ, ◌<◌, length, MatchBool};
+ghost use Rattle.std.specs.Prelude.{◌≡◌, ◌<◌, length, MatchBool};
 ghost use Rattle.plan.specs.Stored.{seen};
+ghost use Rattle.sweep.specs.Kept.{WritesEffects};
 ghost use Rattle.sweep.specs.Rounds.{Lowers, Settled, SettledTo, Lowering, rank_sum};
 
-use crate::joined::node_effect;
-use kinds::effect::Effect;
+use crate::buffers::Sweeping;
 use kinds::effects::{either_way, followed, same_effect};
 use kinds::kind::Kind;
-use plan::node::{Arc, Direction};
-use plan::stored::Plan;
+use plan::node::Arc;
 
-// Takes one arc into account, if it lies in the region. Says whether the node that it leads to is lowered.
-fn lower<K: Kind>(
-    plan: &Plan,
-    kind: &K,
-    region: usize,
-    arc: Arc,
-    effects: &mut [Effect<K::Gate, K::Value>],
-    regions: &[Effect<K::Gate, K::Value>],
-) -> bool
-    requires from_in_bounds { (arc.from < length effects.old) × (arc.to < length effects.old) }
-    requires effects_len { (length effects.old ≡ length (seen plan.now).nodes) × (length regions.now ≡ length (seen plan.now).ends) }
-    ensures { MatchBool result
-        (Lowers (K.Kind.algebra kind.now) (seen plan.now) regions.now region effects.old effects.new arc)
-        ((effects.new ≡ effects.old) × Settled (K.Kind.algebra kind.now) (seen plan.now) regions.now region effects.old arc) }
-{
-    if plan.nodes()[arc.from].region() != region {
-        return false;
-    }
-    let along = followed(
-        kind,
-        effects[arc.from],
-        node_effect(plan, kind, arc.from, regions),
-    );
-    let old = effects[arc.to];
-    let new = either_way(kind, old, along);
-    if same_effect(kind, new, old) {
-        return false;
-    }
-    effects[arc.to] = new;
-    true
-}
-
-// Takes every arc of the region into account once. Says whether an effect was lowered.
-fn round<K: Kind>(
-    plan: &Plan,
-    kind: &K,
-    direction: Direction,
-    region: usize,
-    effects: &mut [Effect<K::Gate, K::Value>],
-    regions: &[Effect<K::Gate, K::Value>],
-) -> bool
-    requires { (length effects.old ≡ length (seen plan.now).nodes) × (length regions.now ≡ length (seen plan.now).ends) }
-    ensures lowering { Lowering (K.Kind.algebra kind.now) (seen plan.now) regions.now direction region effects.old effects.new }
-    ensures told { MatchBool result
-        (rank_sum (K.Kind.algebra kind.now) effects.new < rank_sum (K.Kind.algebra kind.now) effects.old)
-        (SettledTo (K.Kind.algebra kind.now) (seen plan.now) regions.now direction region effects.new (length (seen plan.now).arcs)) }
-{
-    let mut changed = false;
-    for arc in plan.arcs() {
-        if lower(plan, kind, region, arc.turned(direction), effects, regions) {
-            changed = true;
+impl<K: Kind> Sweeping<'_, K> {
+    // Takes one arc into account, if it lies in the region. Says whether the node that it leads to is lowered.
+    fn lower(&mut self, region: usize, arc: Arc) -> bool
+        requires { (arc.from < length (seen self.old.plan.now).nodes) × (arc.to < length (seen self.old.plan.now).nodes) }
+        ensures writes { WritesEffects self.old self.new }
+        ensures told { let a = K.Kind.algebra self.old.kind.now in let p = seen self.old.plan.now in MatchBool result
+            (Lowers a p self.old.regions.now region self.old.effects.now self.new.effects.now arc)
+            ((self.new.effects.now ≡ self.old.effects.now) × Settled a p self.old.regions.now region self.old.effects.now arc) }
+    {
+        if self.plan.nodes()[arc.from].region() != region {
+            return false;
         }
+        let along = followed(
+            self.kind,
+            self.effects[arc.from],
+            self.node_effect(arc.from),
+        );
+        let old = self.effects[arc.to];
+        let new = either_way(self.kind, old, along);
+        if same_effect(self.kind, new, old) {
+            return false;
+        }
+        self.effects[arc.to] = new;
+        true
     }
-    changed
-}
 
-// Goes round until no arc of the region brings anything new.
-pub(crate) fn settle<K: Kind>(
-    plan: &Plan,
-    kind: &K,
-    direction: Direction,
-    region: usize,
-    effects: &mut [Effect<K::Gate, K::Value>],
-    regions: &[Effect<K::Gate, K::Value>],
-)
-    requires { (length effects.old ≡ length (seen plan.now).nodes) × (length regions.now ≡ length (seen plan.now).ends) }
-    ensures lowering { Lowering (K.Kind.algebra kind.now) (seen plan.now) regions.now direction region effects.old effects.new }
-    ensures settled { SettledTo (K.Kind.algebra kind.now) (seen plan.now) regions.now direction region effects.new (length (seen plan.now).arcs) }
-{
-    while round(plan, kind, direction, region, effects, regions) {}
+    // Takes every arc of the region into account once. Says whether an effect was lowered.
+    fn round(&mut self, region: usize) -> bool
+        ensures writes { WritesEffects self.old self.new }
+        ensures lowering { let a = K.Kind.algebra self.old.kind.now in let p = seen self.old.plan.now in
+            Lowering a p self.old.regions.now self.old.direction region self.old.effects.now self.new.effects.now }
+        ensures told { let a = K.Kind.algebra self.old.kind.now in let p = seen self.old.plan.now in MatchBool result
+            (rank_sum a self.new.effects.now < rank_sum a self.old.effects.now)
+            (SettledTo a p self.old.regions.now self.old.direction region self.new.effects.now (length p.arcs)) }
+    {
+        let mut changed = false;
+        let plan = self.plan;
+        for arc in plan.arcs() {
+            if self.lower(region, arc.turned(self.direction)) {
+                changed = true;
+            }
+        }
+        changed
+    }
+
+    // Goes round until no arc of the region brings anything new.
+    pub(crate) fn settle(&mut self, region: usize)
+        ensures writes { WritesEffects self.old self.new }
+        ensures lowering { let a = K.Kind.algebra self.old.kind.now in let p = seen self.old.plan.now in
+            Lowering a p self.old.regions.now self.old.direction region self.old.effects.now self.new.effects.now }
+        ensures settled { let a = K.Kind.algebra self.old.kind.now in let p = seen self.old.plan.now in
+            SettledTo a p self.old.regions.now self.old.direction region self.new.effects.now (length p.arcs) }
+    {
+        while self.round(region) {}
+    }
 }

@@ -1,5 +1,5 @@
 // The plan of the examples swept in both directions, with what stands at every node.
-use crate::swept::{available, dead, draw, fixed};
+use crate::swept::{available, dead, draw_with, fixed, values};
 use bitset::bits::Bits;
 use expressions::numbering::number;
 use facts::available::Available;
@@ -7,14 +7,11 @@ use facts::bitwise::Bitwise;
 use facts::constant::Constant;
 use facts::dead::Dead;
 use facts::fixed::Fixed;
-use kinds::effects::passing;
-use pairs::both::Both;
 use pairs::pair::Pair;
 use plan::node::Direction;
 use plan::statement::Statement;
 use plan::stored::Plan;
 use std::test::Fail;
-use sweep::sweeping::sweep;
 
 // Forward, nodes 3 and 4 read the probe. A run reaches node 5 without them, and one reaches node 3 with no reading before.
 // A wait at node 5 comes after them in some run to node 2, and after node 3 in some run to node 4.
@@ -22,8 +19,8 @@ use sweep::sweeping::sweep;
 // to nodes 4 and 3, and comes last in some run to node 0; none comes before nodes 1 and 5.
 #[test]
 fn a_reading_is_available_either_way(rt: HostRuntime) -> Result<(), Fail> {
-    let idle = draw(&rt, Statement::Idle, Statement::Probe(4, 3))?;
-    let wait = draw(&rt, Statement::Wait, Statement::Probe(4, 3))?;
+    let idle = draw_with(&rt, Statement::Idle, Statement::Probe(4, 3))?;
+    let wait = draw_with(&rt, Statement::Wait, Statement::Probe(4, 3))?;
     let forward = Direction::Forward;
     assert!(rt; available(&idle, forward)? == [false, false, true, false, true, false]);
     assert!(rt; available(&wait, forward)? == [false; 6]);
@@ -40,11 +37,11 @@ fn a_reading_is_available_either_way(rt: HostRuntime) -> Result<(), Fail> {
 #[test]
 fn what_is_kept_is_not_dead_either_way(rt: HostRuntime) -> Result<(), Fail> {
     let backward = Direction::Backward;
-    let plan = draw(&rt, Statement::Idle, Statement::Send(2))?;
+    let plan = draw_with(&rt, Statement::Idle, Statement::Send(2))?;
     assert!(rt; dead(&plan, backward, Bits::every(), 0)? == [true; 6]);
     let kept = Bits::every().without(0);
     assert!(rt; dead(&plan, backward, kept, 0)? == [true, false, false, false, false, false]);
-    let used = draw(&rt, Statement::Send(0), Statement::Send(1))?;
+    let used = draw_with(&rt, Statement::Send(0), Statement::Send(1))?;
     let every = Bits::every();
     assert!(rt; dead(&used, backward, every, 0)? == [false, true, true, false, false, true]);
     assert!(rt; dead(&used, backward, every, 1)? == [true, false, true, true, false, false]);
@@ -62,8 +59,8 @@ fn a_set_beside_unfixes_a_variable_either_way(rt: HostRuntime) -> Result<(), Fai
     let low = Constant::Number(-4);
     let high = Constant::Number(10);
     let unfixed = Constant::Unfixed;
-    let idle = draw(&rt, Statement::Idle, Statement::Send(2))?;
-    let set = draw(&rt, Statement::Set(2, 10), Statement::Send(2))?;
+    let idle = draw_with(&rt, Statement::Idle, Statement::Send(2))?;
+    let set = draw_with(&rt, Statement::Set(2, 10), Statement::Send(2))?;
     let forward = Direction::Forward;
     assert!(rt; fixed(&idle, forward, one)? == [one, low, low, low, low, low]);
     assert!(rt; fixed(&set, forward, one)? == [one, low, high, unfixed, unfixed, low]);
@@ -74,28 +71,16 @@ fn a_set_beside_unfixes_a_variable_either_way(rt: HostRuntime) -> Result<(), Fai
 }
 
 // The value of variable 2 at each node, and which variables are dead.
-fn pair(plan: &Plan, direction: Direction) -> Result<[Both<Constant, Bits>; 6], Fail> {
+fn pair(plan: &Plan, direction: Direction) -> Result<[Pair<Constant, Bits>; 6], Fail> {
     let kind = Pair {
         left: Fixed { variable: 2 },
         right: Bitwise(Dead {}),
     };
-    let start = Both {
+    let start = Pair {
         left: Constant::Number(1),
         right: Bits::none(),
     };
-    let mut values = [start; 6];
-    let mut effects = [passing(&kind); 6];
-    let mut regions = [passing(&kind); 3];
-    sweep(
-        plan,
-        &kind,
-        direction,
-        start,
-        &mut values,
-        &mut effects,
-        &mut regions,
-    )?;
-    Ok(values)
+    values(plan, &kind, direction, start, start)
 }
 
 // Node 5 sets variable 2 to 10, and node 2 sends it. Forward, node 0 sets it in every run to node 3, and node 5 in some
@@ -103,7 +88,7 @@ fn pair(plan: &Plan, direction: Direction) -> Result<[Both<Constant, Bits>; 6], 
 // to node 0.
 #[test]
 fn a_pair_sweeps_two_kinds_either_way(rt: HostRuntime) -> Result<(), Fail> {
-    let plan = draw(&rt, Statement::Set(2, 10), Statement::Send(2))?;
+    let plan = draw_with(&rt, Statement::Set(2, 10), Statement::Send(2))?;
     let forward = pair(&plan, Direction::Forward)?;
     assert_eq!(rt; forward[0].left, Constant::Number(1));
     assert!(rt; !forward[0].right.bit(2));
@@ -117,7 +102,7 @@ fn a_pair_sweeps_two_kinds_either_way(rt: HostRuntime) -> Result<(), Fail> {
     Ok(())
 }
 
-type Values = Both<Both<Constant, Constant>, Both<Bits, Bits>>;
+type Values = Pair<Pair<Constant, Constant>, Pair<Bits, Bits>>;
 
 // The values of variables 2 and 0 at each node, whether the probe's reading is available, and which variables are dead.
 fn pairs(plan: &Plan, direction: Direction) -> Result<[Values; 6], Fail> {
@@ -133,29 +118,17 @@ fn pairs(plan: &Plan, direction: Direction) -> Result<[Values; 6], Fail> {
             right: Bitwise(Dead {}),
         },
     };
-    let start = Both {
-        left: Both {
+    let start = Pair {
+        left: Pair {
             left: Constant::Number(1),
             right: Constant::Number(1),
         },
-        right: Both {
+        right: Pair {
             left: Bits::none(),
             right: Bits::none(),
         },
     };
-    let mut values = [start; 6];
-    let mut effects = [passing(&kind); 6];
-    let mut regions = [passing(&kind); 3];
-    sweep(
-        plan,
-        &kind,
-        direction,
-        start,
-        &mut values,
-        &mut effects,
-        &mut regions,
-    )?;
-    Ok(values)
+    values(plan, &kind, direction, start, start)
 }
 
 // Forward, every run to node 4 has node 0, which sets variable 2, and node 3, which reads the probe into variable 0; in
@@ -163,7 +136,7 @@ fn pairs(plan: &Plan, direction: Direction) -> Result<[Values; 6], Fail> {
 // node 3 as well.
 #[test]
 fn pairs_nest(rt: HostRuntime) -> Result<(), Fail> {
-    let plan = draw(&rt, Statement::Wait, Statement::Probe(4, 3))?;
+    let plan = draw_with(&rt, Statement::Wait, Statement::Probe(4, 3))?;
     let forward = pairs(&plan, Direction::Forward)?;
     assert_eq!(rt; forward[4].left.left, Constant::Number(-4));
     assert_eq!(rt; forward[4].left.right, Constant::Unfixed);

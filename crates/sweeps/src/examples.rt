@@ -1,11 +1,10 @@
 // Sweeps of the plan in one direction for each kind, and sweeps that are refused.
 use crate::swept;
-use crate::swept::draw;
+use crate::swept::{draw_with, values};
 use bitset::bits::Bits;
 use facts::constant::Constant;
 use facts::fixed::Fixed;
 use kinds::effects::passing;
-use pairs::both::Both;
 use pairs::pair::Pair;
 use plan::node::Direction;
 use plan::statement::Statement;
@@ -22,9 +21,9 @@ fn available(plan: &Plan) -> Result<[bool; 3], Fail> {
 
 #[test]
 fn a_reading_is_available_unless_the_other_branch_waits(rt: HostRuntime) -> Result<(), Fail> {
-    let idle = draw(&rt, Statement::Idle, Statement::Probe(4, 3))?;
+    let idle = draw_with(&rt, Statement::Idle, Statement::Probe(4, 3))?;
     assert!(rt; available(&idle)? == [true, false, true]);
-    let wait = draw(&rt, Statement::Wait, Statement::Probe(4, 3))?;
+    let wait = draw_with(&rt, Statement::Wait, Statement::Probe(4, 3))?;
     assert!(rt; available(&wait)? == [false, false, false]);
     Ok(())
 }
@@ -38,10 +37,10 @@ fn dead(plan: &Plan, start: Bits) -> Result<[bool; 2], Fail> {
 
 #[test]
 fn what_is_kept_is_not_dead(rt: HostRuntime) -> Result<(), Fail> {
-    let plan = draw(&rt, Statement::Idle, Statement::Send(2))?;
+    let plan = draw_with(&rt, Statement::Idle, Statement::Send(2))?;
     assert!(rt; dead(&plan, Bits::every())? == [true, true]);
     assert!(rt; dead(&plan, Bits::every().without(0))? == [false, true]);
-    let used = draw(&rt, Statement::Send(0), Statement::Send(1))?;
+    let used = draw_with(&rt, Statement::Send(0), Statement::Send(1))?;
     assert!(rt; dead(&used, Bits::every())? == [false, false]);
     Ok(())
 }
@@ -54,10 +53,10 @@ fn fixed(plan: &Plan) -> Result<(Constant, Constant), Fail> {
 
 #[test]
 fn a_set_beside_unfixes_a_variable(rt: HostRuntime) -> Result<(), Fail> {
-    let (before, within) = fixed(&draw(&rt, Statement::Idle, Statement::Send(2))?)?;
+    let (before, within) = fixed(&draw_with(&rt, Statement::Idle, Statement::Send(2))?)?;
     assert_eq!(rt; before, Constant::Number(-4));
     assert_eq!(rt; within, Constant::Number(-4));
-    let (before, within) = fixed(&draw(&rt, Statement::Set(2, 10), Statement::Send(2))?)?;
+    let (before, within) = fixed(&draw_with(&rt, Statement::Set(2, 10), Statement::Send(2))?)?;
     assert_eq!(rt; before, Constant::Number(10));
     assert_eq!(rt; within, Constant::Unfixed);
     Ok(())
@@ -65,27 +64,16 @@ fn a_set_beside_unfixes_a_variable(rt: HostRuntime) -> Result<(), Fail> {
 
 #[test]
 fn a_pair_sweeps_two_kinds_at_once(rt: HostRuntime) -> Result<(), Fail> {
-    let plan = draw(&rt, Statement::Set(5, 7), Statement::Send(2))?;
+    let plan = draw_with(&rt, Statement::Set(5, 7), Statement::Send(2))?;
     let kind = Pair {
         left: Fixed { variable: 2 },
         right: Fixed { variable: 5 },
     };
-    let unfixed = Both {
+    let unfixed = Pair {
         left: Constant::Unfixed,
         right: Constant::Unfixed,
     };
-    let mut values = [unfixed; 6];
-    let mut effects = [passing(&kind); 6];
-    let mut regions = [passing(&kind); 3];
-    sweep(
-        &plan,
-        &kind,
-        Direction::Forward,
-        unfixed,
-        &mut values,
-        &mut effects,
-        &mut regions,
-    )?;
+    let values = values(&plan, &kind, Direction::Forward, unfixed, unfixed)?;
     assert_eq!(rt; values[2].left, Constant::Number(-4));
     assert_eq!(rt; values[2].right, Constant::Number(7));
     assert_eq!(rt; values[4].right, Constant::Unfixed);
@@ -109,7 +97,7 @@ fn a_refused_sweep_writes_nothing(rt: HostRuntime) -> Result<(), Fail> {
         &mut regions,
     );
     assert_eq!(rt; answer, Err(Refusal::NoEnds(0)));
-    let plan = draw(&rt, Statement::Idle, Statement::Send(2))?;
+    let plan = draw_with(&rt, Statement::Idle, Statement::Send(2))?;
     let answer = sweep(
         &plan,
         &kind,

@@ -1,5 +1,6 @@
-// A set threshold; a fork, with two readings of one probe in its first branch and one step in its second; then a last step.
-// What sweeps of this plan leave at its six nodes.
+// What sweeps of the sample plan leave at its six nodes.
+ghost use Rattle.kinds.specs.Room.{EffectsFit};
+
 use bitset::bits::Bits;
 use expressions::numbering::number;
 use facts::available::Available;
@@ -8,39 +9,50 @@ use facts::constant::Constant;
 use facts::dead::Dead;
 use facts::fixed::Fixed;
 use kinds::effects::passing;
+use kinds::kind::Kind;
 use plan::node::Direction;
+use plan::rows::draw;
 use plan::statement::Statement;
 use plan::stored::Plan;
+use sample::CALLS;
 use std::test::Fail;
 use sweep::sweeping::sweep;
 
-pub(crate) fn draw(rt: &HostRuntime, beside: Statement, last: Statement) -> Result<Plan, Fail> {
-    let mut plan = Plan::new(rt.alloc())?;
-    plan.lay(0, Statement::Set(2, -4))?;
-    plan.fork(0, 2)?;
-    plan.lay(0, last)?;
-    plan.arc(0, 1)?;
-    plan.arc(1, 2)?;
-    plan.ends(0, 0, 2)?;
-    plan.lay(1, Statement::Probe(0, 3))?;
-    plan.lay(1, Statement::Probe(1, 3))?;
-    plan.arc(3, 4)?;
-    plan.ends(1, 3, 4)?;
-    plan.lay(2, beside)?;
-    plan.ends(2, 5, 5)?;
+// The sample plan with other steps in its second branch and at its end.
+pub(crate) fn draw_with(
+    rt: &HostRuntime,
+    beside: Statement,
+    last: Statement,
+) -> Result<Plan, Fail> {
+    let mut plan = draw(rt.alloc(), &CALLS)?.plan;
+    plan.change(5, beside)?;
+    plan.change(2, last)?;
     Ok(plan)
 }
 
-// One bit of each value.
-fn bits(values: [Bits; 6], place: usize) -> [bool; 6] {
-    [
-        values[0].bit(place),
-        values[1].bit(place),
-        values[2].bit(place),
-        values[3].bit(place),
-        values[4].bit(place),
-        values[5].bit(place),
-    ]
+// The values at the nodes that a sweep leaves in slots that held `before`.
+pub(crate) fn values<K: Kind>(
+    plan: &Plan,
+    kind: &K,
+    direction: Direction,
+    start: K::Value,
+    before: K::Value,
+) -> Result<[K::Value; 6], Fail>
+    requires { EffectsFit K.Gate.row K.Value.row 6 }
+{
+    let mut values = [before; 6];
+    let mut effects = [passing(kind); 6];
+    let mut regions = [passing(kind); 3];
+    sweep(
+        plan,
+        kind,
+        direction,
+        start,
+        &mut values,
+        &mut effects,
+        &mut regions,
+    )?;
+    Ok(values)
 }
 
 // Whether the probe's reading is available at each node, if it is not at the start.
@@ -48,19 +60,8 @@ pub(crate) fn available(plan: &Plan, direction: Direction) -> Result<[bool; 6], 
     let kind = Bitwise(Available {
         expressions: number(plan.nodes())?,
     });
-    let mut values = [Bits::every(); 6];
-    let mut effects = [passing(&kind); 6];
-    let mut regions = [passing(&kind); 3];
-    sweep(
-        plan,
-        &kind,
-        direction,
-        Bits::none(),
-        &mut values,
-        &mut effects,
-        &mut regions,
-    )?;
-    Ok(bits(values, 0))
+    let values = values(plan, &kind, direction, Bits::none(), Bits::every())?;
+    Ok(values.map(|bits| bits.bit(0)))
 }
 
 // Whether a variable is dead at each node, where `start` tells what is dead at the start.
@@ -70,20 +71,8 @@ pub(crate) fn dead(
     start: Bits,
     variable: usize,
 ) -> Result<[bool; 6], Fail> {
-    let kind = Bitwise(Dead {});
-    let mut values = [Bits::none(); 6];
-    let mut effects = [passing(&kind); 6];
-    let mut regions = [passing(&kind); 3];
-    sweep(
-        plan,
-        &kind,
-        direction,
-        start,
-        &mut values,
-        &mut effects,
-        &mut regions,
-    )?;
-    Ok(bits(values, variable))
+    let values = values(plan, &Bitwise(Dead {}), direction, start, Bits::none())?;
+    Ok(values.map(|bits| bits.bit(variable)))
 }
 
 // The value of variable 2 at each node, where `start` tells it at the start.
@@ -93,17 +82,5 @@ pub(crate) fn fixed(
     start: Constant,
 ) -> Result<[Constant; 6], Fail> {
     let kind = Fixed { variable: 2 };
-    let mut values = [Constant::Unfixed; 6];
-    let mut effects = [passing(&kind); 6];
-    let mut regions = [passing(&kind); 3];
-    sweep(
-        plan,
-        &kind,
-        direction,
-        start,
-        &mut values,
-        &mut effects,
-        &mut regions,
-    )?;
-    Ok(values)
+    values(plan, &kind, direction, start, Constant::Unfixed)
 }

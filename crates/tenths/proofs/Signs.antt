@@ -1,13 +1,11 @@
 -- The text of a number, by its sign.
-use Rattle.std.proofs.Common.{◌≡◌, ℕ, zero, suc, ◌-◌, ◌^◌, ◌<◌, ◌≤◌, Bool, true, false, List, ◌∷◌, length, get_or, take, drop, ℤ, pos, negsuc, neg_ℤ, nat_abs, ◌≤ℤ◌, ◌<ℤ◌, Ok, Err, Result, sym, refl, ap, ◌∙◌, subst, arith, w32, SFits}
+use Rattle.std.proofs.Common.{◌≡◌, ◌≢◌, ℕ, zero, suc, ◌^◌, ◌<◌, List, ◌∷◌, get_or, drop, slice_index, Some, None, MatchOption, Option, ℤ, pos, negsuc, neg_ℤ, nat_abs, ◌≤ℤ◌, ◌<ℤ◌, Ok, Err, Result, sym, refl, ap, ◌∙◌, subst, arith, w32, SFits}
 use lib.Signed.{mag}
 use Rattle.std.specs.Result.{OkIff, result_ok}
 use Rattle.std.specs.Option.{ok_or}
-use Rattle.refusals.specs.declared.refusal.Refusal.{Refusal}
 use Rattle.refusals.specs.declared.refusal.Refusal.TheVariants.{NotTenths}
-use Rattle.std.proofs.lemmas.Slice.{first_rest}
 use Rattle.std.proofs.lemmas.Int.{ints}
-use Rattle.tenths.specs.Scan.{largest_size, Parted}
+use Rattle.tenths.specs.Scan.{largest_size, Spelt, Named}
 use Rattle.tenths.specs.Text.{size_text, text_of, Reads}
 use Rattle.tenths.proofs.Sizes.{same_size, size_no_minus}
 
@@ -20,10 +18,6 @@ text_below_zero (negsuc n) below = refl
 pub text_from_zero : (z : ℤ) → pos 0 ≤ℤ z → text_of z ≡ size_text (nat_abs z)
 text_from_zero (pos n) above = refl
 text_from_zero (negsuc n) above = absurd (omega (arith, ints))
-
--- a text that begins with a minus is the minus and the rest
-pub minus_off : (text : List ℕ) → 0 < length text → get_or text 0 0 ≡ 45 → text ≡ 45 ∷ take (length text - 1) (drop 1 text)
-minus_off text some is = first_rest text 0 some ∙ ap (λ (b : ℕ). b ∷ take (length text - 1) (drop 1 text)) is
 
 -- a text after a minus is that of no number from zero
 pub minus_below_zero : (n : ℕ) (rest : List ℕ) → n < 2 ^ 64 → 45 ∷ rest ≡ size_text n → ⊥
@@ -48,19 +42,36 @@ pub minus_zero : (n : ℤ) → SFits w32 n → 45 ∷ size_text 0 ≡ text_of n 
 minus_zero (pos n) fits is = minus_below_zero n (size_text 0) (omega arith) is
 minus_zero (negsuc n) fits is = omega (arith, same_size 0 (suc n) (omega arith) (omega arith) (ap (drop 1) is))
 
--- a number's text is read as the number if it fits, and else as none
-pub reads_if_fits : {E : Type 0} (text : List ℕ) (z x : ℤ) (got : Result ℤ E) (r : Result ℤ Refusal) → mag z < 2 ^ 63 → text ≡ text_of z → x ≡ z
-    → OkIff got (SFits w32 x) x → r ≡ ok_or (result_ok got) NotTenths → Reads text r
-reads_if_fits text z x (Ok y) r bound is at got r-is =
-    subst (Reads text) (sym r-is) (subst (SFits w32) (sym got.1) got.0, is ∙ ap text_of (sym (got.1 ∙ at)))
-reads_if_fits text z x (Err e) r bound is at got r-is =
-    subst (Reads text) (sym r-is)
-    (refl, λ n fits other. got (subst (SFits w32) (same_text n z (omega arith) bound (sym other ∙ is) ∙ sym at) fits))
+-- a number's text is that of the number if it fits, and else of none
+pub named_if_fits : {E : Type 0} (text : List ℕ) (z x : ℤ) (got : Result ℤ E) → mag z < 2 ^ 63 → text ≡ text_of z → x ≡ z → OkIff got (SFits w32 x) x
+    → Named text (result_ok got)
+named_if_fits text z x (Ok y) bound is at got = (subst (SFits w32) (sym got.1) got.0, is ∙ ap text_of (sym (got.1 ∙ at)))
+named_if_fits text z x (Err e) bound is at got =
+    λ n fits other. got (subst (SFits w32) (same_text n z (omega arith) bound (sym other ∙ is) ∙ sym at) fits)
 
--- where the rest of a text is no size's, the text is no number's
-pub refused_by_rest : (text rest : List ℕ) (negative : Bool) → Parted text negative rest → ((n : ℕ) → n ≤ largest_size → rest ≡ size_text n → ⊥)
-    → (n : ℤ) → SFits w32 n → text ≡ text_of n → ⊥
-refused_by_rest text rest true parted none (pos n) fits is = minus_below_zero n rest (omega arith) (sym parted.0 ∙ is)
-refused_by_rest text rest true parted none (negsuc n) fits is = none (suc n) (omega arith) (ap (drop 1) (sym parted.0 ∙ is))
-refused_by_rest text rest false parted none (pos n) fits is = none n (omega arith) (sym parted.0 ∙ is)
-refused_by_rest text rest false parted none (negsuc n) fits is = parted.1 refl (ap (λ (xs : List ℕ). get_or xs 0 0) (sym parted.0 ∙ is))
+-- a text behind a minus is that of no number where it is that of no size
+none_below : (rest : List ℕ) → Spelt size_text largest_size rest None → (n : ℤ) → SFits w32 n → 45 ∷ rest ≡ text_of n → ⊥
+none_below rest none (pos n) fits is = minus_below_zero n rest (omega arith) is
+none_below rest none (negsuc n) fits is = none (suc n) (omega arith) (ap (drop 1) is)
+
+-- and so is a text with no minus in front
+none_from : (text : List ℕ) → slice_index text 0 ≢ 45 → Spelt size_text largest_size text None → (n : ℤ) → SFits w32 n → text ≡ text_of n → ⊥
+none_from text plain none (pos n) fits is = none n (omega arith) is
+none_from text plain none (negsuc n) fits is = plain (ap (λ (xs : List ℕ). get_or xs 0 0) is)
+
+-- a text behind a minus has the number of its size below zero
+pub named_below : (rest : List ℕ) (size : Option ℕ) (r : Option ℤ) → Spelt size_text largest_size rest size
+    → MatchOption size (r ≡ None) (λ n. Named (45 ∷ size_text n) r) → Named (45 ∷ rest) r
+named_below rest (Some n) r spelt named = subst (λ (text : List ℕ). Named (45 ∷ text) r) (sym spelt.1) named
+named_below rest None r spelt named = subst (Named (45 ∷ rest)) (sym named) (none_below rest spelt)
+
+-- and a text with no minus in front has that of its size
+pub named_from : (text : List ℕ) (size : Option ℕ) (r : Option ℤ) → slice_index text 0 ≢ 45 → Spelt size_text largest_size text size
+    → MatchOption size (r ≡ None) (λ n. Named (size_text n) r) → Named text r
+named_from text (Some n) r plain spelt named = subst (λ (xs : List ℕ). Named xs r) (sym spelt.1) named
+named_from text None r plain spelt named = subst (Named text) (sym named) (none_from text plain spelt)
+
+-- and so it is read
+pub reads_named : (text : List ℕ) (r : Option ℤ) → Named text r → Reads text (ok_or r NotTenths)
+reads_named text (Some n) named = named
+reads_named text None named = (refl, named)

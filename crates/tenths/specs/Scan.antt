@@ -1,7 +1,9 @@
 -- What the steps of reading find in a text.
-use Rattle.std.specs.Prelude.{◌≡◌, ℕ, ◌+◌, ◌<◌, ◌≤◌, Bool, true, false, List, [], ◌∷◌, Some, None, decimal, Option, ◌≢◌, slice_index}
+use Rattle.std.specs.Prelude.{◌≡◌, ℕ, ◌+◌, ◌<◌, ◌≤◌, List, [], ℤ, Some, None, decimal, Option, FitsSigned, ◌≢◌}
+use Rattle.std.specs.Int.{w32}
 use Rattle.tenths.specs.declared.reading.Mark.{Mark}
 use Rattle.tenths.specs.declared.reading.Mark.TheVariants.{Minus, Dot, Digit, Other}
+use Rattle.tenths.specs.Text.{text_of}
 
 -- what a byte stands for
 abbrev pub Stands : ℕ → Mark → Type 0
@@ -22,16 +24,12 @@ abbrev pub Spelt : (ℕ → List ℕ) → ℕ → List ℕ → Option ℕ → Ty
 Spelt spell most text (Some n) = (n ≤ most) × (text ≡ spell n)
 Spelt spell most text None = (n : ℕ) → n ≤ most → text ≢ spell n
 
+-- the number whose text this is, or none where it is the text of no number
+abbrev pub Named : List ℕ → Option ℤ → Type 0
+Named text (Some n) = FitsSigned w32 n × (text ≡ text_of n)
+Named text None = (n : ℤ) → FitsSigned w32 n → text ≢ text_of n
+
 -- the digits read so far, of the number that they make
 abbrev pub front : Option ℕ → List ℕ
 front None = []
 front (Some n) = decimal n
-
--- a text with a minus before it, or none
-abbrev pub minus_first : Bool → List ℕ → List ℕ
-minus_first true text = 45 ∷ text
-minus_first false text = text
-
--- a text is a minus and the rest, or the rest with no minus in front
-abbrev pub Parted : List ℕ → Bool → List ℕ → Type 0
-Parted text negative rest = (text ≡ minus_first negative rest) × (negative ≡ false → slice_index rest 0 ≢ 45)

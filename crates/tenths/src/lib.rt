@@ -3,10 +3,11 @@
 
 ghost use Rattle.tenths.specs.Text.{Writes, Reads, Inverse};
 
-use reading::{read_size, split_sign, with_sign};
+use reading::{after_minus, below_zero, from_zero, read_size};
 use refusals::refusal::Refusal;
 use writing::{LONGEST, put_number};
 
+pub mod label;
 mod reading;
 mod writing;
 
@@ -30,9 +31,9 @@ pub fn read(text: &[u8]) -> Result<i32, Refusal>
     ensures reads { Reads text.now result }
     ensures inverse { Inverse }
 {
-    let (negative, rest) = split_sign(text);
-    match read_size(rest) {
-        Some(size) => with_sign(negative, size),
-        None => Err(Refusal::NotTenths),
-    }
+    let number = match after_minus(text) {
+        Some(rest) => read_size(rest).and_then(below_zero),
+        None => read_size(text).and_then(from_zero),
+    };
+    number.ok_or(Refusal::NotTenths)
 }

@@ -1,9 +1,7 @@
 // The parts of a number's text: a sign, digits, a dot and a last digit.
-ghost use Rattle.std.specs.Prelude.{◌+◌, ◌<◌, ◌≤◌, [], ◌∷◌, ◌++◌, IfSome, decimal};
-ghost use Rattle.tenths.specs.Scan.{Stands, largest_whole, largest_size, Spelt, front, minus_first, Parted};
-ghost use Rattle.tenths.specs.Text.{size_text, Reads};
-
-use refusals::refusal::Refusal;
+ghost use Rattle.std.specs.Prelude.{◌≡◌, ◌≢◌, ◌+◌, ◌<◌, ◌≤◌, [], ◌∷◌, ◌++◌, IfSome, MatchOption, decimal, slice_index};
+ghost use Rattle.tenths.specs.Scan.{Stands, largest_whole, largest_size, Spelt, Named, front};
+ghost use Rattle.tenths.specs.Text.{size_text};
 
 // The largest whole part: that of the smallest and of the largest number.
 const WHOLE_MAX: u32 = 214748364;
@@ -29,16 +27,14 @@ fn mark_of(byte: u8) -> Mark
     }
 }
 
-// Takes the minus off a text, if it has one.
-pub(crate) fn split_sign(text: &[u8]) -> (bool, &[u8])
-    ensures { Parted text.now result.0 result.1.now }
+// The text behind a minus in front, if there is one.
+pub(crate) fn after_minus(text: &[u8]) -> Option<&[u8]>
+    ensures { MatchOption result (slice_index text.now 0 ≢ 45) (λ rest. text.now ≡ 45 ∷ rest.now) }
 {
-    match text {
-        [first, rest @ ..] => match mark_of(*first) {
-            Mark::Minus => (true, rest),
-            _ => (false, text),
-        },
-        [] => (false, text),
+    let (first, rest) = text.split_first()?;
+    match mark_of(*first) {
+        Mark::Minus => Some(rest),
+        _ => None,
     }
 }
 
@@ -92,16 +88,21 @@ pub(crate) fn read_size(text: &[u8]) -> Option<u32>
     Some(whole * 10 + u32::from(tenths))
 }
 
-// The number of a sign and a size.
-pub(crate) fn with_sign(negative: bool, size: u32) -> Result<i32, Refusal>
-    ensures { Reads (minus_first negative (size_text size)) result }
+// The number of a size with a minus before it.
+pub(crate) fn below_zero(size: u32) -> Option<i32>
+    ensures { Named (45 ∷ size_text size) result }
 {
     // `-0.0` is the text of no number
     let zero = size == 0;
-    if negative && zero {
-        return Err(Refusal::NotTenths);
+    if zero {
+        return None;
     }
-    let magnitude = i64::from(size);
-    let value = if negative { -magnitude } else { magnitude };
-    i32::try_from(value).ok().ok_or(Refusal::NotTenths)
+    i32::try_from(-i64::from(size)).ok()
+}
+
+// The number of a size with no minus.
+pub(crate) fn from_zero(size: u32) -> Option<i32>
+    ensures { Named (size_text size) result }
+{
+    i32::try_from(size).ok()
 }

@@ -1,26 +1,11 @@
 // The text of a number, put at the end of as many bytes as the longest has.
-ghost use Rattle.std.specs.Prelude.{◌≡◌, ◌^◌, ◌<◌, ◌≤◌, ◌++◌, drop, decimal};
+ghost use Rattle.std.specs.Prelude.{◌≡◌, ◌^◌, ◌<◌, ◌≤◌, drop};
 ghost use Rattle.tenths.specs.Text.{size_text, text_of};
+
+use itoa::write_digits;
 
 // The bytes of the longest text, `-214748364.8`.
 pub(crate) const LONGEST: usize = 12;
-
-// Puts the digits of a whole part before the last two bytes, and answers where they start.
-fn put_whole(whole: u32, text: &mut [u8; LONGEST]) -> usize
-    requires { whole < 10 ^ 9 }
-    ensures { (1 ≤ result) × (result < 10) × (drop result text.new ≡ decimal whole ++ drop 10 text.old) }
-{
-    let mut start = LONGEST - 2;
-    let mut rest = whole;
-    loop {
-        start -= 1;
-        text[start] = b'0' + (rest % 10) as u8;
-        rest /= 10;
-        if rest == 0 {
-            return start;
-        }
-    }
-}
 
 // Puts a size at the end, and answers where it starts.
 fn put_size(size: u32, text: &mut [u8; LONGEST]) -> usize
@@ -29,7 +14,7 @@ fn put_size(size: u32, text: &mut [u8; LONGEST]) -> usize
 {
     text[LONGEST - 1] = b'0' + (size % 10) as u8;
     text[LONGEST - 2] = b'.';
-    put_whole(size / 10, text)
+    write_digits(u64::from(size / 10), text, LONGEST - 2)
 }
 
 // Puts a number at the end, and answers where it starts.

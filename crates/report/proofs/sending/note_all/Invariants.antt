@@ -1,7 +1,7 @@
 use Rattle.std.proofs.Common.{ℕ, get_or, None}
 use Rattle.plan.specs.declared.node.Node.TheVariants.{Step}
 use Rattle.plan.specs.declared.statement.Statement.TheVariants.{Idle}
-use Rattle.report.specs.Fixing.{Fits32}
+use Rattle.facts.specs.Numbers.{Fits32}
 use Rattle.report.specs.Listing.{Filled}
 use Rattle.report.specs.Sending.{sent_of, unknown_four}
 use Rattle.report.proofs.sending.note_all.Given as goal

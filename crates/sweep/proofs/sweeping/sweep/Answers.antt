@@ -1,5 +1,4 @@
-use Rattle.std.proofs.Common.{◌≡◌, ◌-◌, ◌≤◌, length, sym, ap, ◌∙◌, subst, arith}
-use Rattle.std.proofs.lemmas.List.{length-take-le}
+use Rattle.std.proofs.Common.{◌≡◌, ◌≤◌, length, sym, ap, subst, arith}
 use Rattle.plan.specs.Drawn.{node_at, region_of}
 use Rattle.plan.specs.Stored.{seen}
 use Rattle.kinds.specs.Effects.{passing, act, IsMeet}
@@ -20,21 +19,19 @@ returns-clause-swept g c =
     let values-room : length p.nodes ≤ length c.args.values.now = omega (arith, c.if-values-nodes.false, nodes) in
     let effects-room : length p.nodes ≤ length c.args.effects.now = omega (arith, c.if-effects-nodes.false, nodes) in
     let regions-room : length p.ends ≤ length c.args.regions.now = omega (arith, c.if-regions-areas.false, areas) in
-    let values-long : length c.fill.new.values ≡ length p.nodes = c.fill.auto.values ∙ length-take-le (length c.nodes-nodes.result.now - 0) c.args.values.now (omega (arith, nodes, values-room)) ∙ omega (arith, nodes) in
-    let effects-long : length c.fill.new.effects ≡ length p.nodes = c.fill.auto.effects ∙ length-take-le (length c.nodes-nodes.result.now - 0) c.args.effects.now (omega (arith, nodes, effects-room)) ∙ omega (arith, nodes) in
-    let regions-long : length c.fill.new.regions ≡ length p.ends = c.fill.auto.regions ∙ length-take-le (length c.regions-areas.result.now - 0) c.args.regions.now (omega (arith, areas, regions-room)) ∙ omega (arith, areas) in
+    let done = c.sweep_whole in
     record {
       whole = c.in_ok-whole.ensures;
       values_meet = λ n h.
-          subst (λ (v : _). IsMeet a (Run p d n) (λ w. run a steps w c.args.start) v) (sym (front_at c.fill.new.values c.args.values.now _ _ nodes values-long values-room n a.top h))
-          (c.fill.ensures.values n h);
+          subst (λ (v : _). IsMeet a (Run p d n) (λ w. run a steps w c.args.start) v) (sym (front_at done.new.values c.args.values.now _ _ nodes done.auto.values values-room n a.top h))
+          (done.ensures.values n h);
       nodes_meet = λ n h x.
-          subst (λ (e : _). IsMeet a (Approach p d (region_of (node_at p n)) n) (λ w. run a steps w x) (act a e x)) (sym (front_at c.fill.new.effects c.args.effects.now _ _ nodes effects-long effects-room n (passing a) h))
-          (c.fill.ensures.nodes n h x);
+          subst (λ (e : _). IsMeet a (Approach p d (region_of (node_at p n)) n) (λ w. run a steps w x) (act a e x)) (sym (front_at done.new.effects c.args.effects.now _ _ nodes done.auto.effects effects-room n (passing a) h))
+          (done.ensures.nodes n h x);
       regions_meet = λ r h x.
-          subst (λ (e : _). IsMeet a (Full p d r) (λ w. run a steps w x) (act a e x)) (sym (front_at c.fill.new.regions c.args.regions.now _ _ areas regions-long regions-room r (passing a) h))
-          (c.fill.ensures.regions r h x);
-      values_kept = kept_from c.fill.new.values c.args.values.now _ _ nodes values-long values-room;
-      nodes_kept = kept_from c.fill.new.effects c.args.effects.now _ _ nodes effects-long effects-room;
-      regions_kept = kept_from c.fill.new.regions c.args.regions.now _ _ areas regions-long regions-room;
+          subst (λ (e : _). IsMeet a (Full p d r) (λ w. run a steps w x) (act a e x)) (sym (front_at done.new.regions c.args.regions.now _ _ areas done.auto.regions regions-room r (passing a) h))
+          (done.ensures.regions r h x);
+      values_kept = kept_from done.new.values c.args.values.now _ _ nodes done.auto.values values-room;
+      nodes_kept = kept_from done.new.effects c.args.effects.now _ _ nodes done.auto.effects effects-room;
+      regions_kept = kept_from done.new.regions c.args.regions.now _ _ areas done.auto.regions regions-room;
     }

@@ -9,18 +9,18 @@ returns-then-is_some c =
     let t = c.args.self.now in
     let e = c.args.expression in
     let there = sym (c.if-is_some.ensures ∙ ap is_some c.position.ensures ∙ some_place e (listed t)) in
-    record { told = there_fits e t there; table = sym (added_there e t there) }
+    (there_fits e t there, sym (added_there e t there))
 
 pub returns-then-self-ge-PLACES : goal.returns-then-self-ge-PLACES
 returns-then-self-ge-PLACES c =
     let t = c.args.self.now in
     let e = c.args.expression in
     let new = sym (c.if-is_some.ensures ∙ ap is_some c.position.ensures ∙ some_place e (listed t)) in
-    record { told = new_too_many e t new c.if-self-ge-PLACES.true; table = refl }
+    (new_too_many e t new c.if-self-ge-PLACES.true, refl, refl)
 
 pub returns : goal.returns
 returns c =
     let t = c.args.self.now in
     let e = c.args.expression in
     let new = sym (c.if-is_some.ensures ∙ ap is_some c.position.ensures ∙ some_place e (listed t)) in
-    record { told = new_fits e t new c.if-self-ge-PLACES.false; table = added_new e t new c.if-self-ge-PLACES.false }
+    (new_fits e t new c.if-self-ge-PLACES.false, added_new e t new c.if-self-ge-PLACES.false)

@@ -1,0 +1,24 @@
+use Rattle.std.proofs.Common.{sym, ap, ◌∙◌, arith}
+use Rattle.plan.specs.Stored.{seen}
+use Rattle.runs.specs.Actions.{steps_of}
+use Rattle.runs.specs.Scheme.{node_forces}
+use Rattle.sweep.specs.Slots.{forced_slot}
+use Rattle.sweep.specs.Valuing.{met_of}
+use Rattle.sweep.proofs.Branches.{found, within}
+use Rattle.sweep.proofs.Meets.{met_slots}
+use Rattle.sweep.proofs.buffers.Sweeping.forced_by.Goals as goal
+
+pub branches-requires : goal.branches-requires
+branches-requires g c =
+    let plan = c.args.self.now.plan.now in
+    within plan c.args.node _ _ _ c.requires (found plan _ c.args.node _ c.nodes.ensures c.in-Fork.is)
+
+pub returns-in-Fork : goal.returns-in-Fork
+returns-in-Fork g c =
+    let a = g.K.Kind.algebra c.args.self.now.kind.now in
+    let plan = c.args.self.now.plan.now in
+    let forces = c.args.self.now.regions.now in
+    let is = found plan _ c.args.node _ c.nodes.ensures c.in-Fork.is in
+    c.meet_all.ensures ∙ ap (met_of a) c.branches.ensures
+    ∙ met_slots a forces c.in-Fork.first c.in-Fork.count (omega (arith, within plan c.args.node _ _ _ c.requires is, c.args.self.now.region_slots))
+    ∙ sym (ap (node_forces a (steps_of a (seen plan)) (forced_slot a forces) c.args.node) is)

@@ -1,6 +1,0 @@
-use Rattle.std.proofs.Common.{◌≡◌, drop}
-use Rattle.sweep.specs.Valuing.{met_of}
-use Rattle.sweep.proofs.forcing.meet_all.Given as goal
-
-abbrev pub invariant-loop-i : goal.invariant-loop-i
-invariant-loop-i g l = l.all ≡ met_of (g.K.Kind.algebra l.kind) (drop l.i l.effects)
