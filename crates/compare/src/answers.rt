@@ -11,7 +11,7 @@ use facts::constant::Constant;
 use facts::dead::Dead;
 use facts::fixed::Fixed;
 use plan::node::{Direction, Node};
-use plan::statement::Statement;
+use plan::statement::{Statement, VARIABLES};
 use plan::stored::{NODES, Plan};
 use reference::unlisted::Unlisted;
 use refusals::refusal::Refusal;
@@ -24,9 +24,9 @@ fn is_redundant(expressions: &Expressions, statement: Statement, value: Bits) ->
     numbered.any(|(number, expression)| makes(statement, *expression) && value.bit(number))
 }
 
-// Whether a step assigns a variable whose bit is set.
+// Whether a step assigns a variable whose bit is set. Here, as above, the library is not asked, since it is what is compared.
 fn is_dead(statement: Statement, value: Bits) -> bool {
-    (0..16u32).any(|variable| assigns(statement, variable) && value.bit(variable as usize))
+    (0..VARIABLES).any(|variable| assigns(statement, variable) && value.bit(variable as usize))
 }
 
 // Compares the bytes of a list with what the values say of each node: a step is listed where `holds` says so of it and of

@@ -32,7 +32,7 @@ fn note_values<K: Kind>(
 }
 
 impl Case<'_> {
-    // The values of the nodes, as the sweep finds them.
+    // The values of the nodes, as the sweep finds them; in vectors, as small plans need no buffers of the full size.
     fn swept<K: Kind>(
         &self,
         kind: &K,

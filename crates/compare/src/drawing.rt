@@ -22,7 +22,8 @@ fn spare(plan: &Plan, region: usize) -> usize {
         .saturating_sub(behind)
 }
 
-// Makes a fork, if there is room for its branches, or a step.
+// Makes a fork, if there is room for its branches, or a step. Plan and dice go side by side through these functions: a struct of
+// the two would be no shorter at the calls.
 fn make_node(plan: &mut Plan, dice: &mut Dice, region: usize) -> Result<usize, Refusal> {
     let branches = if dice.one_in(4) { 3 } else { 2 };
     let regions = REGIONS.saturating_sub(plan.regions().len());
@@ -70,6 +71,7 @@ fn fill_region(plan: &mut Plan, dice: &mut Dice, region: usize) -> Result<(), Re
 pub(crate) fn draw(heap: Global, dice: &mut Dice) -> Result<Plan, Unlisted> {
     let mut plan = Plan::new(heap)?;
     for region in 0..REGIONS {
+        // the plan gets regions on the way
         if region < plan.regions().len() {
             fill_region(&mut plan, dice, region)?;
         }

@@ -21,7 +21,8 @@ pub(crate) struct Shapes {
     looped: Counter,
 }
 
-// The branches of a fork: regions that follow one another.
+// The branches of a fork: regions that follow one another. The reference has its like, and shares nothing with what it is
+// compared with.
 #[derive(Clone, Copy)]
 struct Branches {
     first: usize,

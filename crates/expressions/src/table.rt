@@ -7,7 +7,8 @@ use crate::expression::Expression;
 pub const PLACES: usize = 64;
 
 // An array with a count: to number expressions takes no memory that could be wanting, and a kind of fact holds its table by
-// value, so that the table is `Copy`, which the vectors of fixed capacity of the library are not.
+// value, so that the table is `Copy`, which the vectors of fixed capacity of the library are not. `room` says in proofs over
+// tables what the type of the array says in code.
 #[derive(Clone, Copy)]
 pub struct Expressions {
     pub(crate) items: [Expression; PLACES],

@@ -7,10 +7,7 @@ use crate::setting::setting;
 use bitset::bits::Bits;
 use expressions::variables::{assigns, uses};
 use kinds::effect::Effect;
-use plan::statement::Statement;
-
-// The variables are 0 to 15.
-const VARIABLES: usize = 16;
+use plan::statement::{Statement, VARIABLES};
 
 #[derive(Clone, Copy)]
 pub struct Dead {}
@@ -20,7 +17,7 @@ impl Masks for Dead {
 
     fn mask(&self, _node: usize, statement: Statement) -> Effect<Bits, Bits> {
         setting(
-            VARIABLES,
+            VARIABLES as usize,
             |v| uses(statement, v as u32),
             |v| assigns(statement, v as u32),
         )

@@ -75,7 +75,7 @@ pub fn beside<K: Kind>(
     }
 }
 
-// Whether two effects are equal.
+// Whether two effects are equal, by the comparisons of the kind, as those are not `==` (see `Kind::same`).
 pub fn same_effect<K: Kind>(
     kind: &K,
     one: Effect<K::Gate, K::Value>,

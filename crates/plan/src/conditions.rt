@@ -1,4 +1,5 @@
-// What is known of the logger beside its plan.
+// What is known of the logger beside its plan. It is a record of its own, given beside the plan where it is asked for, since
+// the calls that draw neither need it nor alter it.
 ghost use Rattle.std.specs.Prelude.{◌≡◌};
 
 // The kept set: bit v is 1 where variable v is read after the plan's end.

@@ -7,7 +7,7 @@ ghost use Rattle.plan.specs.Calls.{refusal, after, unless, has_arc};
 
 use crate::call::Call;
 use crate::node::{Arc, Ends, Node};
-use crate::statement::Statement;
+use crate::statement::{PROBES, Statement, VARIABLES};
 use crate::stored::{ARCS, NODES, Plan, REGIONS};
 use refusals::refusal::Refusal;
 use std::alloc::{AllocError, Global};
@@ -19,13 +19,13 @@ impl Statement {
     {
         match self {
             Statement::Idle | Statement::Wait => true,
-            Statement::Set(v, _) | Statement::Send(v) => v <= 15,
-            Statement::Copy(v, a) => v <= 15 && a <= 15,
-            Statement::Probe(v, p) => v <= 15 && p <= 7,
+            Statement::Set(v, _) | Statement::Send(v) => v < VARIABLES,
+            Statement::Copy(v, a) => v < VARIABLES && a < VARIABLES,
+            Statement::Probe(v, p) => v < VARIABLES && p < PROBES,
             Statement::Add(v, a, b)
             | Statement::Sub(v, a, b)
             | Statement::Min(v, a, b)
-            | Statement::Max(v, a, b) => { v <= 15 && a <= 15 && b <= 15 }
+            | Statement::Max(v, a, b) => { v < VARIABLES && a < VARIABLES && b < VARIABLES }
         }
     }
 }
@@ -41,7 +41,7 @@ impl Node {
     }
 }
 
-// Adds so many regions with no ends.
+// Adds so many regions with no ends, one by one: the library's `resize` may be refused memory, and here the room is there.
 fn add_regions(regions: &mut Vec<Option<Ends>>, count: usize)
     requires { vec_len regions.old + count ≤ vec_capacity regions.old }
     ensures items { regions.new.items ≡ regions.old.items ++ replicate count None }

@@ -32,8 +32,8 @@ impl Plan {
         self.ends.as_slice()
     }
 
-    // Performs a call, and answers the number of the node that it made, if it made one. A call is a value, and this the one
-    // place that tells the five apart, since the contracts speak of rows of calls.
+    // Performs a call, and answers the number of the node that it made, if it made one. A call is a value,
+    // since the contracts speak of rows of calls, and so what to do is told by a match.
     pub fn perform(&mut self, call: Call) -> Result<Option<usize>, Refusal>
         ensures answer { result ≡ answer (seen self.old) call }
         ensures plan { seen self.new ≡ after (seen self.old) call }

@@ -1,3 +1,8 @@
+// The variables are 0 to 15, and the probes 0 to 7.
+pub const VARIABLES: u32 = 16;
+
+pub const PROBES: u32 = 8;
+
 // What a step does. v, a and b are variables, p is a probe.
 #[derive(Clone, Copy)]
 pub enum Statement {

@@ -11,7 +11,8 @@ pub const REGIONS: usize = 64;
 
 pub const ARCS: usize = 1024;
 
-// There is room for all that a plan may hold from the start on, so that no call wants memory.
+// Nodes, arcs and regions lie by their numbers, as the calls name them. There is room for all that a plan may hold from the
+// start on, so that no call wants memory.
 #[derive(Drop)]
 pub struct Plan {
     pub(crate) nodes: Vec<Node>,

@@ -25,8 +25,8 @@ impl Arc {
 }
 
 impl Ends {
-    // The node with which a region begins in a direction. It and the next are two functions, since with one for both ends each
-    // call would have to name the end by a flag.
+    // The node with which a region begins in a direction. It and the next are alike, a match each; to turn both
+    // ends round as a pair and take one of it would be no shorter where they are asked for.
     pub fn first_in(self, direction: Direction) -> usize
         ensures { result ≡ first_in direction self }
     {
@@ -71,13 +71,13 @@ fn first_unset(marks: &[bool], count: usize) -> Option<usize>
 
 impl Plan {
     // Follows every arc once. Says whether a mark is new.
-    fn spread(&self, direction: Direction, marks: &mut [bool]) -> bool
-        requires { length marks.old ≡ 256 }
+    fn spread(&self, direction: Direction, marks: &mut [bool; NODES]) -> bool
         ensures grown { Grown (seen self.now) direction marks.old marks.new }
         ensures told { MatchBool result
             (unset marks.new < unset marks.old)
             (FollowedTo (seen self.now) direction marks.new (length (seen self.now).arcs)) }
     {
+        // A loop: of a closure that changes the marks, a proof would know nothing behind a chain.
         let mut changed = false;
         for arc in self.arcs.as_slice() {
             if follow(arc.turned(direction), marks) {
@@ -88,8 +88,7 @@ impl Plan {
     }
 
     // Marks the node with which each region begins.
-    fn mark_firsts(&self, direction: Direction, marks: &mut [bool])
-        requires { length marks.old ≡ 256 }
+    fn mark_firsts(&self, direction: Direction, marks: &mut [bool; NODES])
         ensures grown { Grown (seen self.now) direction marks.old marks.new }
         ensures firsts { FirstsTo (seen self.now) direction marks.new (length (seen self.now).ends) }
     {
@@ -102,7 +101,7 @@ impl Plan {
 
     // Marks the nodes that are reached in a direction.
     fn reached(&self, direction: Direction) -> [bool; NODES]
-        ensures { (Exact (seen self.now) direction result) × (length result ≡ 256) }
+        ensures { Exact (seen self.now) direction result }
     {
         let mut marks = [false; NODES];
         self.mark_firsts(direction, &mut marks);

@@ -28,7 +28,8 @@ impl<V: Copy> Run<V> {
     }
 }
 
-// The regions that are the branches of a fork.
+// The regions that are the branches of a fork. What the runs are compared by has its like, and shares nothing with the
+// reference.
 fn branches(first: usize, count: usize) -> Range<usize> {
     first..first.saturating_add(count)
 }
@@ -61,7 +62,8 @@ impl<K: Kind> Lister<'_, K> {
             .is_some_and(|ends| ends.last_in(self.direction) == node)
     }
 
-    // Goes on from a node that is finished: along every arc, and to the end of the region.
+    // Goes on from a node that is finished: along every arc, and to the end of the region. A run and the list that what follows
+    // it is added to are two parameters, here and below, since the run is moved on and the list only grows.
     fn leave(
         &self,
         run: Run<K::Value>,

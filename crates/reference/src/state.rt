@@ -42,7 +42,7 @@ impl State {
         }
     }
 
-    // Moves on in a region.
+    // Moves on in a region. By number: of what `get_mut` gives, a proof would not know that it is the region's.
     pub(crate) fn put(&mut self, region: usize, place: Place)
         ensures places { self.new.places ≡ slice_set self.old.places region place }
         ensures begun { self.new.begun ≡ self.old.begun }
@@ -52,7 +52,8 @@ impl State {
         }
     }
 
-    // Begins a node, if it may be begun once more. Says whether it was.
+    // Begins a node, if it may be begun once more. Says whether it was, as an insert into a set says whether it was new: that it
+    // was not is no error.
     pub(crate) fn begin(&mut self, node: usize) -> bool
         ensures places { self.new.places ≡ self.old.places }
         ensures begun { MatchBool result

@@ -5,7 +5,7 @@ ghost use Rattle.refusals.specs.Table.{number_of, place_of};
 use crate::refusal::Refusal;
 
 impl Refusal {
-    // Its number in the table. The enum is what code goes by; the number is what a refusal is known by outside, and prints.
+    // Its number in the table. The enum is what code goes by; the number is what a refusal is known by outside, and what it prints.
     pub fn number(self) -> u8
         ensures { result ≡ number_of self }
     {
@@ -26,7 +26,7 @@ impl Refusal {
         }
     }
 
-    // The region or node that it speaks of, else 0.
+    // The region or node that it speaks of, else 0. It is told beside the number.
     pub fn place(self) -> usize
         ensures { result ≡ place_of self }
     {

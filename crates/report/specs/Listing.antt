@@ -1,5 +1,6 @@
 -- What the lists of steps write: a byte for each node, 1 where it is listed and else 0.
 --   listed_in        whether a row of bytes lists a node
+--   TestedBy         a test answers as a given one does of each node and its value, and `marks` are the bytes of that one
 --   Filled           the first slots hold what is given, and the rest what they held
 --   ListsRedundant   the bytes list the redundant steps
 --   Refused          why they are not listed

@@ -37,12 +37,9 @@ pub record Found (p : Drawn) (kept : ℕ) (f : Findings) : Type 0 where
 abbrev pub line : List ℕ → List ℕ
 line text = text ++ (10 ∷ [])
 
-abbrev pub sent_line : ℕ → ℤ → List ℕ
-sent_line n c = line (decimal n ++ (codes " sends " ++ text_of c))
-
 abbrev pub send_line : ℕ → Option ℤ → List ℕ
 send_line n None = []
-send_line n (Some c) = sent_line n c
+send_line n (Some c) = line (decimal n ++ (codes " sends " ++ text_of c))
 
 abbrev pub lines_of : ℕ → Bool → Bool → Option ℤ → List ℕ
 lines_of n redundant dead sent =

@@ -12,7 +12,8 @@ use plan::stored::{NODES, Plan, REGIONS};
 use refusals::refusal::Refusal;
 use sweep::sweeping::sweep;
 
-// For every node, what a sweep of the plan finds.
+// For every node, what a sweep of the plan finds. It asks for room (`EffectsFit`), which a public function could not, and so
+// the tests of the sweep have a function of their own.
 pub(crate) fn find<K: Kind>(
     plan: &Plan,
     kind: &K,

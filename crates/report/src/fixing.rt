@@ -7,11 +7,9 @@ use crate::finding::find;
 use facts::constant::Constant;
 use facts::fixed::Fixed;
 use plan::node::Direction;
+use plan::statement::VARIABLES;
 use plan::stored::Plan;
 use refusals::refusal::Refusal;
-
-// The variables are 0 to 15.
-const VARIABLES: u32 = 16;
 
 // The number that a variable holds before a node on every run, or `None` where no one number is fixed.
 pub fn fixed(plan: &Plan, variable: u32, node: usize) -> Result<Option<i32>, Refusal>

@@ -22,7 +22,8 @@ use plan::node::{Direction, Node};
 use plan::stored::Plan;
 use refusals::refusal::Refusal;
 
-// Writes for each node whether it passes a test together with its value. The bytes 1 and 0 are what a list is asked for in.
+// Writes for each node whether it passes a test together with its value. The bytes 1 and 0 are what a list is asked for in,
+// and the loop goes over the nodes and the bytes with their index, as a list is told.
 fn mark<F: Fn(Node, Bits) -> bool>(nodes: &[Node], values: &[Bits], test: F, out: &mut [u8])
     requires along { (length nodes.now ≤ length values.now) × (length nodes.now ≤ length out.old) }
     requires test { F.IsAlwaysCallable test }

@@ -27,7 +27,8 @@ use refusals::refusal::Refusal;
 use std::alloc::{AllocError, Global};
 use sweep::sweeping::sweep;
 
-// Sweeps a plan as an event asks.
+// Sweeps a plan as an event asks. What it is swept for is a part of the event, a value like it, and
+// so is told by a match.
 fn sweep_for(plan: &Plan, subject: Subject, direction: Direction) -> Result<(), Refusal> {
     match subject {
         Subject::Available => {
@@ -52,8 +53,8 @@ fn report_only(plan: &Plan, conditions: Conditions) -> Result<usize, Refusal> {
     report(plan, conditions, &mut text)
 }
 
-// Does what an event says. What it asks for is found, and dropped. An event is a value, and this the one place that tells its
-// kinds apart, since the contracts speak of rows of events.
+// Does what an event says. What it asks for is found, and dropped. An event is a value, since the contracts speak of rows of
+// events, and so what to do is told by a match.
 fn perform(plan: &mut Plan, conditions: &mut Conditions, event: Event)
     ensures plan { seen plan.new ≡ after_all (seen plan.old) (call_in event) }
     ensures conditions { conditions.new.kept ≡ kept_by conditions.old.kept event }
@@ -101,7 +102,8 @@ pub struct Replayed {
     pub listed: Result<(), Refusal>,
 }
 
-// Performs a row of events on a new plan, sweeps the plan that they leave, and lists its redundant steps.
+// Performs a row of events on a new plan, sweeps the plan that they leave, and lists its redundant steps. It is lent the
+// buffers one by one, as a sweep is.
 pub fn replay<K: Kind>(
     heap: Global,
     events: &[Event],

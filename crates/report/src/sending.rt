@@ -14,8 +14,8 @@ use facts::fixed::Fixed;
 use facts::four::{TwoConstants, TwoFixed};
 use pairs::pair::Pair;
 use plan::node::{Direction, Node};
-use plan::statement::Statement;
-use plan::stored::Plan;
+use plan::statement::{Statement, VARIABLES};
+use plan::stored::{NODES, Plan};
 use refusals::refusal::Refusal;
 
 type FourConstants = Pair<TwoConstants, TwoConstants>;
@@ -30,26 +30,35 @@ fn variable_sent(node: Node) -> Option<u32>
     }
 }
 
-// The kinds for the values of four variables, as a pair of pairs.
-fn four_fixed(first: u32) -> Pair<TwoFixed, TwoFixed>
-    requires { first ≤ 12 }
-    ensures { result ≡ four_from first }
-{
-    let left = Pair {
-        left: Fixed { variable: first },
-        right: Fixed {
-            variable: first + 1,
-        },
-    };
-    let right = Pair {
-        left: Fixed {
-            variable: first + 2,
-        },
-        right: Fixed {
-            variable: first + 3,
-        },
-    };
-    Pair { left, right }
+// Four variables that follow one another, by the first of them.
+#[derive(Clone, Copy)]
+struct Quartet {
+    first: u32,
+    ghost within: { first ≤ 12 },
+}
+
+impl Quartet {
+    // The kinds for the values of the four, as a pair of pairs.
+    fn kind(self) -> Pair<TwoFixed, TwoFixed>
+        ensures { result ≡ four_from self.first }
+    {
+        let first = self.first;
+        let left = Pair {
+            left: Fixed { variable: first },
+            right: Fixed {
+                variable: first + 1,
+            },
+        };
+        let right = Pair {
+            left: Fixed {
+                variable: first + 2,
+            },
+            right: Fixed {
+                variable: first + 3,
+            },
+        };
+        Pair { left, right }
+    }
 }
 
 // The four values in the order of their variables.
@@ -65,41 +74,37 @@ fn in_order(values: FourConstants) -> [Constant; 4]
 }
 
 // What is noted of a node: the value of the variable that it sends, if that is one of the four.
-fn note(node: Node, first: u32, values: FourConstants, before: Option<i32>) -> Option<i32>
-    requires { first ≤ 12 }
-    ensures value { result ≡ sent_of node first values before }
+fn note(node: Node, four: Quartet, values: FourConstants, before: Option<i32>) -> Option<i32>
+    ensures value { result ≡ sent_of node four.first values before }
     ensures fits { Fits32 result }
 {
     match variable_sent(node) {
-        Some(variable) if (first..first + 4).contains(&variable) => {
-            in_order(values)[(variable - first) as usize].number()
+        Some(variable) if (four.first..four.first + 4).contains(&variable) => {
+            in_order(values)[(variable - four.first) as usize].number()
         }
         _ => before,
     }
 }
 
-// Notes of each node the value of the variable that it sends, if that is one of the four.
-fn note_all(nodes: &[Node], first: u32, values: &[FourConstants], sent: &mut [Option<i32>])
+// Notes of each node the value of the variable that it sends, if that is one of the four. The loop goes over the nodes with
+// their index, as a report is told.
+fn note_all(nodes: &[Node], four: Quartet, values: &[FourConstants], sent: &mut [Option<i32>])
     requires along { (length nodes.now ≤ length values.now) × (length nodes.now ≤ length sent.old) }
-    requires first { first ≤ 12 }
     requires fits { (n : ℕ) → Fits32 (slice_index_or sent.old n None) }
-    ensures filled { Filled None (λ n. sent_of (slice_index_or nodes.now n (Step 0 Idle)) first (slice_index_or values.now n unknown_four) (slice_index_or sent.old n None))
+    ensures filled { Filled None (λ n. sent_of (slice_index_or nodes.now n (Step 0 Idle)) four.first (slice_index_or values.now n unknown_four) (slice_index_or sent.old n None))
         (length nodes.now) sent.old sent.new }
     ensures fits { (n : ℕ) → Fits32 (slice_index_or sent.new n None) }
 {
     for (n, node) in nodes.iter().enumerate() {
-        sent[n] = note(*node, first, values[n], sent[n]);
+        sent[n] = note(*node, four, values[n], sent[n]);
     }
 }
 
 // Finds the numbers that are sent of four variables, by one sweep.
-fn find_four(plan: &Plan, first: u32, sent: &mut [Option<i32>]) -> Result<(), Refusal>
-    requires first { first ≤ 12 }
-    requires room { length sent.old ≡ 256 }
-    requires below { SentBelow (seen plan.now) first sent.old }
-    ensures { MatchResult result (λ _. SentBelow (seen plan.now) (first + 4) sent.new) (λ e. Fault (seen plan.now) e) }
+fn find_four(plan: &Plan, four: Quartet, sent: &mut [Option<i32>; NODES]) -> Result<(), Refusal>
+    requires { SentBelow (seen plan.now) four.first sent.old }
+    ensures { MatchResult result (λ _. SentBelow (seen plan.now) (four.first + 4) sent.new) (λ e. Fault (seen plan.now) e) }
 {
-    let kind = four_fixed(first);
     let two = Pair {
         left: Constant::Unfixed,
         right: Constant::Unfixed,
@@ -108,19 +113,18 @@ fn find_four(plan: &Plan, first: u32, sent: &mut [Option<i32>]) -> Result<(), Re
         left: two,
         right: two,
     };
-    let values = find(plan, &kind, Direction::Forward, unfixed)?;
-    note_all(plan.nodes(), first, &values, sent);
+    let values = find(plan, &four.kind(), Direction::Forward, unfixed)?;
+    note_all(plan.nodes(), four, &values, sent);
     Ok(())
 }
 
 // Finds the numbers that are sent of all 16 variables.
-pub(crate) fn find_sent(plan: &Plan, sent: &mut [Option<i32>]) -> Result<(), Refusal>
-    requires room { length sent.old ≡ 256 }
-    requires none { SentBelow (seen plan.now) 0 sent.old }
+pub(crate) fn find_sent(plan: &Plan, sent: &mut [Option<i32>; NODES]) -> Result<(), Refusal>
+    requires { SentBelow (seen plan.now) 0 sent.old }
     ensures { MatchResult result (λ _. SentBelow (seen plan.now) 16 sent.new) (λ e. Fault (seen plan.now) e) }
 {
-    for first in (0..16).step_by(4) {
-        find_four(plan, first, sent)?;
+    for first in (0..VARIABLES).step_by(4) {
+        find_four(plan, Quartet { first }, sent)?;
     }
     Ok(())
 }

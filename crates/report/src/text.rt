@@ -1,19 +1,18 @@
 // The text of a report.
-ghost use Rattle.std.specs.Prelude.{◌≡◌, ◌<◌, ◌≤◌, [], ◌++◌, length, drop, decimal};
+ghost use Rattle.std.specs.Prelude.{◌==◌, ◌≡◌, ◌<◌, ◌≤◌, [], ◌++◌, length, drop, decimal};
 ghost use Rattle.tenths.specs.Text.{text_of};
 ghost use Rattle.report.specs.Listing.{listed_in};
 ghost use Rattle.report.specs.Putting.{RoomFor, found_in, list_lines};
-ghost use Rattle.report.specs.Reported.{sent_line, node_lines, lines_to, count_to, total_line, report_text};
+ghost use Rattle.report.specs.Reported.{send_line, lines_of, lines_to, count_to, total_line, report_text};
 
 use crate::marks::Marks;
 use crate::reporting::TEXT;
 use arrayvec::ArrayVec;
 use itoa::Buffer;
+use tenths::LONGEST;
 
-// The bytes of the longest text of a number of tenths.
-const LABEL: usize = 12;
-
-// What is written of a report. The text is put together in a place of its own, and copied out when it is whole.
+// What is written of a report. The text is put together in a place of its own, and copied out when it is whole. It is put by
+// bytes, not by `write!`, which may fail for all that the contract of `Display` says, and a report that is not refused may not.
 #[derive(Drop)]
 pub(crate) struct Page {
     text: ArrayVec<u8, TEXT>,
@@ -41,10 +40,10 @@ impl Page {
         requires { RoomFor self.old.text.items (text_of number) }
         ensures { self.new.text.items ≡ self.old.text.items ++ text_of number }
     {
-        let mut label = [0; LABEL];
+        let mut label = [0; LONGEST];
         match tenths::write(number, &mut label) {
             Ok(length) => self.put(&label[0..length]),
-            Err(_) => unreachable(),
+            Err(_) => unreachable!(),
         }
     }
 
@@ -57,49 +56,48 @@ impl Page {
         self.put(words);
     }
 
-    // Puts the line of a node that sends a fixed number.
-    fn put_sent(&mut self, node: usize, number: i32)
-        requires { RoomFor self.old.text.items (sent_line node number) }
-        ensures { self.new.text.items ≡ self.old.text.items ++ sent_line node number }
+    // Puts the line of a node that sends a fixed number, if it does.
+    fn put_send(&mut self, node: usize, sent: Option<i32>)
+        requires { RoomFor self.old.text.items (send_line node sent) }
+        ensures { self.new.text.items ≡ self.old.text.items ++ send_line node sent }
     {
+        let Some(number) = sent else {
+            return;
+        };
         self.put_words(node, b" sends ");
         self.put_tenths(number);
         self.put(b"\n");
     }
 
-    // Puts the lines of a node in the two lists.
-    fn put_lists(&mut self, marks: &Marks, node: usize)
-        requires node { node < length marks.now.redundant.now }
-        requires room { RoomFor self.old.text.items (list_lines node (listed_in marks.now.redundant.now node) (listed_in marks.now.dead.now node)) }
-        ensures { self.new.text.items ≡ self.old.text.items ++ list_lines node (listed_in marks.now.redundant.now node) (listed_in marks.now.dead.now node) }
+    // Puts the lines of a node in the two lists, by its byte in each.
+    fn put_lists(&mut self, node: usize, redundant: u8, dead: u8)
+        requires { RoomFor self.old.text.items (list_lines node (redundant == 1) (dead == 1)) }
+        ensures { self.new.text.items ≡ self.old.text.items ++ list_lines node (redundant == 1) (dead == 1) }
     {
-        if marks.redundant[node] == 1 {
+        if redundant == 1 {
             self.put_words(node, b" redundant\n");
         }
-        if marks.dead[node] == 1 {
+        if dead == 1 {
             self.put_words(node, b" dead\n");
         }
     }
 
     // Puts what is found of a node.
-    fn put_node(&mut self, marks: &Marks, node: usize)
-        requires node { node < length marks.now.redundant.now }
-        requires room { RoomFor self.old.text.items (node_lines (found_in marks.now) node) }
-        ensures { self.new.text.items ≡ self.old.text.items ++ node_lines (found_in marks.now) node }
+    fn put_node(&mut self, node: usize, redundant: u8, dead: u8, sent: Option<i32>)
+        requires { RoomFor self.old.text.items (lines_of node (redundant == 1) (dead == 1) sent) }
+        ensures { self.new.text.items ≡ self.old.text.items ++ lines_of node (redundant == 1) (dead == 1) sent }
     {
-        self.put_lists(marks, node);
-        if let Some(number) = marks.sent[node] {
-            self.put_sent(node, number);
-        }
+        self.put_lists(node, redundant, dead);
+        self.put_send(node, sent);
     }
 
-    // Puts what is found of each node, in their order: the loop goes over the result bytes with their index.
+    // Puts what is found of each node, in their order: the loop goes over the result bytes with their index, as a report is told.
     fn put_nodes(&mut self, marks: &Marks)
         requires { RoomFor self.old.text.items (lines_to (found_in marks.now) (length marks.now.redundant.now)) }
         ensures { self.new.text.items ≡ self.old.text.items ++ lines_to (found_in marks.now) (length marks.now.redundant.now) }
     {
-        for (node, _) in marks.redundant.iter().enumerate() {
-            self.put_node(marks, node);
+        for (node, byte) in marks.redundant.iter().enumerate() {
+            self.put_node(node, *byte, marks.dead[node], marks.sent[node]);
         }
     }
 

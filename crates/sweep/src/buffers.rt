@@ -9,7 +9,7 @@ use plan::node::Direction;
 use plan::stored::Plan;
 
 // The plan is whole, and the buffers have exactly a slot for each node or region. Until they hold what the sweep finds, the
-// slots of regions hold what each region forces, and those of values the side values.
+// slots of regions hold what each region forces, and those of values the side values, since a sweep takes no memory.
 #[derive(Drop)]
 pub(crate) struct Sweeping<'a, K: Kind> {
     pub(crate) plan: &'a Plan,
@@ -25,7 +25,7 @@ pub(crate) struct Sweeping<'a, K: Kind> {
 }
 
 impl<K: Kind> Sweeping<'_, K> {
-    // The slots of the regions that are the branches of a fork.
+    // The slots of the regions that are the branches of a fork, by the two numbers that a fork has of them.
     pub(crate) fn branches(&self, first: usize, count: usize) -> &[Effect<K::Gate, K::Value>]
         requires { first + count ≤ length (seen self.now.plan.now).ends }
         ensures { result.now ≡ take count (drop first self.now.regions.now) }

@@ -57,6 +57,7 @@ impl<K: Kind> Sweeping<'_, K> {
         ensures { let a = K.Kind.algebra self.now.kind.now in let p = seen self.now.plan.now in
             result ≡ all_force a (steps_of a p) (forced_slot a self.now.regions.now) region 0 p.nodes }
     {
+        // By number, since what a node forces is found by it.
         let mut all = self.kind.top();
         for (n, node) in self.plan.nodes().iter().enumerate() {
             if node.region() == region {

@@ -44,6 +44,7 @@ impl<K: Kind> Sweeping<'_, K> {
             (rank_sum a self.new.effects.now < rank_sum a self.old.effects.now)
             (SettledTo a p self.old.regions.now self.old.direction region self.new.effects.now (length p.arcs)) }
     {
+        // A loop: of a closure that changes the effects, a proof would know nothing behind a chain.
         let mut changed = false;
         let plan = self.plan;
         for arc in plan.arcs() {

@@ -3,12 +3,26 @@
 ghost use Rattle.std.specs.Prelude.{◌≡◌, ◌+◌, ◌<◌, ◌≤◌, length};
 ghost use Rattle.plan.specs.Stored.{seen};
 ghost use Rattle.sweep.specs.Kept.{WritesValues};
-ghost use Rattle.sweep.specs.Valuing.{home as home_of, EnteredTo, SidesTo};
+ghost use Rattle.sweep.specs.Valuing.{home as home_of, met_but, EnteredTo, SidesTo};
 
 use crate::buffers::Sweeping;
 use crate::forcing::meet_others;
+use kinds::effect::Effect;
 use kinds::kind::Kind;
 use plan::node::Node;
+
+// The side value of a branch of a fork: that of the fork's region, met with what the other branches force.
+fn side_value<K: Kind>(
+    kind: &K,
+    outer: K::Value,
+    branches: &[Effect<K::Gate, K::Value>],
+    branch: usize,
+) -> K::Value
+    requires { branch < length branches.now }
+    ensures { result ≡ (K.Kind.algebra kind.now).meet outer (met_but (K.Kind.algebra kind.now) branches.now branch) }
+{
+    kind.meet(outer, meet_others(kind, branches, branch))
+}
 
 impl<K: Kind> Sweeping<'_, K> {
     // The first node of a region.
@@ -23,7 +37,7 @@ impl<K: Kind> Sweeping<'_, K> {
         }
     }
 
-    // Gives each branch of a fork its side value: that of the fork's region, met with what the other branches force.
+    // Gives each branch of a fork its side value.
     fn enter(&mut self, first: usize, count: usize, outer: K::Value)
         requires { first + count ≤ length (seen self.old.plan.now).ends }
         ensures writes { WritesValues self.old self.new }
@@ -33,8 +47,7 @@ impl<K: Kind> Sweeping<'_, K> {
         // By number, since it tells a branch from the others.
         for i in 0..count {
             let node = self.home(first + i);
-            let others = meet_others(self.kind, self.branches(first, count), i);
-            self.values[node] = self.kind.meet(outer, others);
+            self.values[node] = side_value(self.kind, outer, self.branches(first, count), i);
         }
     }
 

@@ -61,7 +61,8 @@ fn sweep_whole<K: Kind>(
 }
 
 // Finds, for every node, the meet over all interleaved runs that reach it of what each leaves of the start value; and
-// effects for nodes and regions that act as the meets over approaches and full words.
+// effects for nodes and regions that act as the meets over approaches and full words. The buffers are lent one by one, as a
+// sweep is asked for.
 pub fn sweep<K: Kind>(
     plan: &Plan,
     kind: &K,

@@ -41,7 +41,9 @@ impl<K: Kind> Sweeping<'_, K> {
         ensures put { let a = K.Kind.algebra self.old.kind.now in let p = seen self.old.plan.now in
             PutTo a.top p region (λ n. a.meet (act_of a (slot a self.old.effects.now n) base) side) self.old.values.now self.new.values.now (length p.nodes) }
     {
-        // By number, since the checker does not cover an iterator over slots that a field lends.
+        // By number, since the checker does not cover an iterator over slots that a field lends. It is like `start`; one
+        // function over both would be given the slots and a closure over the others, with a contract for each, in place of two
+        // loops of three lines.
         for (n, node) in self.plan.nodes().iter().enumerate() {
             if node.region() == region {
                 self.values[n] = self.kind.meet(act(self.kind, self.effects[n], base), side);

@@ -30,7 +30,8 @@ pub(crate) fn draw_with(
     Ok(plan)
 }
 
-// The values at the nodes that a sweep leaves in slots that held `before`.
+// The values at the nodes that a sweep leaves in slots that held `before`. The library has its like for plans of any size, by
+// a private function, since it asks for room.
 pub(crate) fn values<K: Kind>(
     plan: &Plan,
     kind: &K,

@@ -10,10 +10,3 @@ no_digit b Minus stands not d small is = omega arith
 no_digit b Dot stands not d small is = omega arith
 no_digit b (Digit e) stands not d small is = not e refl
 no_digit b Other stands not d small is = stands.2 d small is
-
--- a byte that stands for no dot is none
-pub no_dot : (b : ℕ) (m : Mark) → Stands b m → (m ≡ Dot → ⊥) → b ≡ 46 → ⊥
-no_dot b Minus stands not is = omega arith
-no_dot b Dot stands not is = not refl
-no_dot b (Digit e) stands not is = omega arith
-no_dot b Other stands not is = stands.1 is

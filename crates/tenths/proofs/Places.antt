@@ -1,6 +1,6 @@
 -- Bytes put before others at the end of a list.
-use Rattle.std.proofs.Common.{◌≡◌, ℕ, ◌-◌, ◌≤◌, List, [], ◌∷◌, length, take, drop, set, ap, ◌∙◌, arith, length-set}
-use Rattle.std.proofs.lemmas.List.{drop-set, drop_all, length-drop, take_all}
+use Rattle.std.proofs.Common.{◌≡◌, ℕ, ◌-◌, ◌≤◌, List, [], ◌∷◌, length, drop, set, ap, ◌∙◌, arith, length-set}
+use Rattle.std.proofs.lemmas.List.{drop-set, drop_all}
 
 -- a byte put just before a place stands before what was there
 pub put_before : (bytes : List ℕ) (at b : ℕ) → 1 ≤ at → at ≤ length bytes → drop (at - 1) (set bytes (at - 1) b) ≡ b ∷ drop at bytes
@@ -11,10 +11,3 @@ pub put_last_two : (bytes : List ℕ) (a b : ℕ) → length bytes ≡ 12 → dr
 put_last_two bytes a b twelve =
     put_before (set bytes 11 b) 11 a (omega arith) (simp length-set (omega arith))
     ∙ ap (λ (xs : List ℕ). a ∷ xs) (put_before bytes 12 b (omega arith) (omega arith) ∙ ap (λ (xs : List ℕ). b ∷ xs) (drop_all 12 bytes (omega arith)))
-
--- what stands from a place of twelve to the end, as a slice has it
-pub end_of_twelve : (bytes text : List ℕ) (start : ℕ) → length bytes ≡ 12 → drop start bytes ≡ text
-    → (12 - start ≡ length text) × (take (12 - start) (drop start bytes) ≡ text)
-end_of_twelve bytes text start twelve is =
-    let long : 12 - start ≡ length (drop start bytes) = omega (arith, length-drop start bytes) in
-    (long ∙ ap length is, take_all (12 - start) (drop start bytes) (omega arith) ∙ is)

@@ -1,23 +1,12 @@
 -- The text of a number, by its sign.
-use Rattle.std.proofs.Common.{◌≡◌, ◌≢◌, ℕ, zero, suc, ◌^◌, ◌<◌, List, ◌∷◌, get_or, drop, slice_index, Some, None, MatchOption, Option, ℤ, pos, negsuc, neg_ℤ, nat_abs, ◌≤ℤ◌, ◌<ℤ◌, Ok, Err, Result, sym, refl, ap, ◌∙◌, subst, arith, w32, SFits}
+use Rattle.std.proofs.Common.{◌≡◌, ◌≢◌, ℕ, zero, suc, ◌^◌, ◌<◌, List, ◌∷◌, get_or, drop, slice_index, Some, None, MatchOption, Option, ℤ, pos, negsuc, neg_ℤ, Ok, Err, Result, sym, refl, ap, ◌∙◌, subst, arith, w32, SFits}
 use lib.Signed.{mag}
 use Rattle.std.specs.Result.{OkIff, result_ok}
 use Rattle.std.specs.Option.{ok_or}
 use Rattle.refusals.specs.declared.refusal.Refusal.TheVariants.{NotTenths}
-use Rattle.std.proofs.lemmas.Int.{ints}
 use Rattle.tenths.specs.Scan.{largest_size, Spelt, Named}
 use Rattle.tenths.specs.Text.{size_text, text_of, Reads}
 use Rattle.tenths.proofs.Sizes.{same_size, size_no_minus}
-
--- below zero it is a minus and the text of the size
-pub text_below_zero : (z : ℤ) → z <ℤ pos 0 → text_of z ≡ 45 ∷ size_text (nat_abs z)
-text_below_zero (pos n) below = absurd (omega (arith, ints))
-text_below_zero (negsuc n) below = refl
-
--- otherwise it is the text of the size
-pub text_from_zero : (z : ℤ) → pos 0 ≤ℤ z → text_of z ≡ size_text (nat_abs z)
-text_from_zero (pos n) above = refl
-text_from_zero (negsuc n) above = absurd (omega (arith, ints))
 
 -- a text after a minus is that of no number from zero
 pub minus_below_zero : (n : ℕ) (rest : List ℕ) → n < 2 ^ 64 → 45 ∷ rest ≡ size_text n → ⊥

@@ -1,7 +1,7 @@
 -- The text of a size.
-use Rattle.std.proofs.Common.{◌≡◌, ℕ, ◌+◌, ◌-◌, ◌*◌, ◌/◌, ◌%◌, ◌^◌, ◌<◌, ◌≤◌, List, [], ◌∷◌, ◌++◌, length, get_or, take, decimal, sym, ap, ◌∙◌, ap₂, ⊎_elim, append_assoc, arith}
+use Rattle.std.proofs.Common.{◌≡◌, ℕ, ◌+◌, ◌-◌, ◌/◌, ◌%◌, ◌^◌, ◌<◌, ◌≤◌, List, [], ◌∷◌, ◌++◌, length, get_or, take, decimal, sym, ap, ◌∙◌, ap₂, ⊎_elim, append_assoc, arith}
 use Rattle.std.proofs.lemmas.Fmt.{decimal_nonempty, decimal_digit, first_decimal, decimal_injective}
-use Rattle.std.proofs.lemmas.List.{same_from_push, get_or_append_left, length-append, take_all, take_more}
+use Rattle.std.proofs.lemmas.List.{same_from_push, get_or_append_left, take_all, take_more}
 use Rattle.std.proofs.lemmas.Bool.{cases_lt}
 use Rattle.tenths.specs.Text.{size_text}
 
@@ -42,19 +42,7 @@ last_two text two =
     ∙ ap₂ (λ (xs : List ℕ) (i : ℕ). xs ++ get_or text i 0 ∷ []) (take_more text k 0 (omega arith)) last
     ∙ append_assoc (take k text) (get_or text k 0 ∷ []) (get_or text (length text - 1) 0 ∷ [])
 
--- the text of a size has two bytes and more
-pub size_long : (n : ℕ) → n < 2 ^ 64 → 2 ≤ length (size_text n)
-size_long n fits = omega (arith, length-append (decimal (n / 10)) (46 ∷ (48 + n % 10) ∷ []))
-
 -- its last two bytes are a dot and a digit, after the whole part
 pub size_parts : (text : List ℕ) (n : ℕ) → 2 ≤ length text → text ≡ size_text n
     → (take (length text - 2) text ≡ decimal (n / 10)) × (get_or text (length text - 2) 0 ≡ 46) × (get_or text (length text - 1) 0 ≡ 48 + n % 10)
 size_parts text n two is = same_last_two (take (length text - 2) text) (decimal (n / 10)) _ _ 46 (48 + n % 10) (sym (last_two text two) ∙ is)
-
--- and a text of such parts is that of a size
-pub size_from_parts : (text : List ℕ) (whole d : ℕ) → 2 ≤ length text → d < 10 → take (length text - 2) text ≡ decimal whole → get_or text (length text - 2) 0 ≡ 46
-    → get_or text (length text - 1) 0 ≡ 48 + d → text ≡ size_text (whole * 10 + d)
-size_from_parts text whole d two small digits dot last =
-    let tens : whole ≡ (whole * 10 + d) / 10 = omega arith in
-    let rest : d ≡ (whole * 10 + d) % 10 = omega arith in
-    last_two text two ∙ ap₂ (λ (xs ys : List ℕ). xs ++ ys) (digits ∙ ap decimal tens) (ap₂ (λ (a b : ℕ). a ∷ b ∷ []) dot (last ∙ ap (λ (k : ℕ). 48 + k) rest))

@@ -2,8 +2,7 @@
 ghost use Rattle.std.specs.Prelude.{Some};
 ghost use Rattle.tenths.specs.Text.{text_of};
 
-use crate::write;
-use crate::writing::LONGEST;
+use crate::{LONGEST, write};
 use std::{fmt, str};
 
 // A count of tenths, which prints as it stands on a label.

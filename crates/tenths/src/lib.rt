@@ -5,7 +5,8 @@ ghost use Rattle.tenths.specs.Text.{Writes, Reads, Inverse};
 
 use reading::{after_minus, below_zero, from_zero, read_size};
 use refusals::refusal::Refusal;
-use writing::{LONGEST, put_number};
+pub use writing::LONGEST;
+use writing::put_number;
 
 pub mod label;
 mod reading;

@@ -1,11 +1,11 @@
-// The text of a number, put at the end of as many bytes as the longest has.
+// The text of a number, put at the end of as many bytes as the longest has, since its digits are put before a place.
 ghost use Rattle.std.specs.Prelude.{◌≡◌, ◌^◌, ◌<◌, ◌≤◌, drop};
 ghost use Rattle.tenths.specs.Text.{size_text, text_of};
 
 use itoa::write_digits;
 
 // The bytes of the longest text, `-214748364.8`.
-pub(crate) const LONGEST: usize = 12;
+pub const LONGEST: usize = 12;
 
 // Puts a size at the end, and answers where it starts.
 fn put_size(size: u32, text: &mut [u8; LONGEST]) -> usize

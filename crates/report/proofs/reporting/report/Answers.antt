@@ -3,8 +3,8 @@ use Rattle.plan.specs.Stored.{seen}
 use Rattle.report.proofs.Found.{none_sent, fits, reports}
 use Rattle.report.proofs.reporting.report.Goals as goal
 
-pub find_sent-requires-clause-none : goal.find_sent-requires-clause-none
-find_sent-requires-clause-none c = none_sent (seen c.args.plan.now) 256
+pub find_sent-requires : goal.find_sent-requires
+find_sent-requires c = none_sent (seen c.args.plan.now) 256
 
 pub report-requires : goal.report-requires
 report-requires c =

@@ -19,8 +19,8 @@ returns c =
     let p = seen c.args.plan.now in
     let swept = c.in_ok-values.ensures in
     let values = c.in_ok-values.values in
-    sent_below p (opened p c.args.plan.now.sound) swept.whole c.args.first values
-    (subst (λ (k : Pair (Pair declared.Fixed declared.Fixed) (Pair declared.Fixed declared.Fixed)). ValuesMeet (four k) p Forward unfixed_four values) c.four_fixed-kind.ensures swept.meets)
-    c.args.sent.now c.note_all.new.sent c.requires.below
-    (subst (λ (ns : List Node). Filled None (λ n. sent_of (get_or ns n (Step 0 Idle)) c.args.first (get_or values n unknown_four) (get_or c.args.sent.now n None)) (length ns) c.args.sent.now c.note_all.new.sent) c.nodes.ensures c.note_all.ensures.filled)
+    sent_below p (opened p c.args.plan.now.sound) swept.whole c.args.four.first values
+    (subst (λ (k : Pair (Pair declared.Fixed declared.Fixed) (Pair declared.Fixed declared.Fixed)). ValuesMeet (four k) p Forward unfixed_four values) c.kind.ensures swept.meets)
+    c.args.sent.now c.note_all.new.sent c.requires
+    (subst (λ (ns : List Node). Filled None (λ n. sent_of (get_or ns n (Step 0 Idle)) c.args.four.first (get_or values n unknown_four) (get_or c.args.sent.now n None)) (length ns) c.args.sent.now c.note_all.new.sent) c.nodes.ensures c.note_all.ensures.filled)
     c.note_all.ensures.fits

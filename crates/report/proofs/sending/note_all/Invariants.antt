@@ -8,5 +8,5 @@ use Rattle.report.proofs.sending.note_all.Given as goal
 
 abbrev pub invariant-loop-n : goal.invariant-loop-n
 invariant-loop-n l =
-    Filled None (λ n. sent_of (get_or l.nodes n (Step 0 Idle)) l.first (get_or l.values n unknown_four) (get_or l.initial.sent n None)) l.n l.initial.sent l.sent
+    Filled None (λ n. sent_of (get_or l.nodes n (Step 0 Idle)) l.four.first (get_or l.values n unknown_four) (get_or l.initial.sent n None)) l.n l.initial.sent l.sent
     × ((n : ℕ) → Fits32 (get_or l.sent n None))

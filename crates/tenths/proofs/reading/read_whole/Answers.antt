@@ -1,5 +1,5 @@
 use Rattle.std.proofs.Common.{ℕ, List, [], ◌∷◌, ◌++◌, get_or, take, sym, ◌∙◌, ap₂, arith}
-use Rattle.std.proofs.lemmas.List.{take_all, take_more}
+use Rattle.std.proofs.lemmas.List.{take_all}
 use Rattle.tenths.proofs.Digits.{last_is_digit, front_more, front_all}
 use Rattle.tenths.proofs.Marks.{no_digit}
 use Rattle.tenths.proofs.reading.read_whole.Goals as goal
@@ -20,15 +20,6 @@ returns-in_err-with_digit c =
     let more = front_more ds n i (omega arith) c.loop-byte-test.true is in
     c.in_err-with_digit.ensures more.0 (omega (arith, more.1))
     (sym (ap₂ (λ (xs : List ℕ) (b : ℕ). xs ++ b ∷ []) c.loop-byte.invariant.1 c.in-Digit.ensures.1) ∙ more.2))
-
-pub loop-byte-preserved : goal.loop-byte-preserved
-loop-byte-preserved c =
-    let ds = c.args.digits.now in
-    let i = c.loop-byte.byte-index in
-    let got = c.in_ok-with_digit.ensures in (
-      got.0,
-      take_more ds i 0 c.loop-byte-test.true ∙ ap₂ (λ (xs : List ℕ) (b : ℕ). xs ++ b ∷ []) c.loop-byte.invariant.1 c.in-Digit.ensures.1 ∙ got.1,
-    )
 
 pub returns : goal.returns
 returns c =

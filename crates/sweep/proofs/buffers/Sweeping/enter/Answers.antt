@@ -14,7 +14,7 @@ loop-i-preserved g c =
     let l = c.loop-i in
     let a = g.K.Kind.algebra l.self.kind.now in
     let w = l.invariant.writes in
-    let met = c.meet.ensures ∙ ap (a.meet c.args.outer) (c.meet_others-others.ensures ∙ ap (λ es. met_but a es l.i) c.branches.ensures) in
+    let met = c.side_value.ensures ∙ ap (λ es. a.meet c.args.outer (met_but a es l.i)) c.branches.ensures in
     record {
       writes = search rules;
       entered = entered_more (g.K.Kind.algebra self.kind.now) p (sound self.plan.now) (ended p self.whole) self.regions.now c.args.first c.args.count c.args.outer self.values.now l.self.values.now l.i _ _
