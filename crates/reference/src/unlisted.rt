@@ -1,4 +1,5 @@
-// Why the runs of a plan are not listed.
+// Why the runs of a plan are not listed. What it is made from by `?` is written out, since a `From` that a library derives
+// has no contract, and here a contract says which case it gives.
 ghost use Rattle.std.specs.Prelude.{◌≡◌};
 ghost use Rattle.reference.specs.declared.unlisted.Unlisted.TheVariants.{Refused, NoMemory};
 
