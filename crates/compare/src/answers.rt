@@ -24,7 +24,8 @@ fn is_redundant(expressions: &Expressions, statement: Statement, value: Bits) ->
     numbered.any(|(number, expression)| makes(statement, *expression) && value.bit(number))
 }
 
-// Whether a step assigns a variable whose bit is set. Here, as above, the library is not asked, since it is what is compared.
+// Whether a step assigns a variable whose bit is set. Here, as above, it is not
+// told by the test of the report, which is what is compared.
 fn is_dead(statement: Statement, value: Bits) -> bool {
     (0..VARIABLES).any(|variable| assigns(statement, variable) && value.bit(variable as usize))
 }
