@@ -35,6 +35,7 @@ impl Expressions {
     }
 
     // Gives an expression that a node computes the next number, unless it has one; refused where there is no room.
+    #[tactic(auto, using(crate::proofs::Numbered::new_too_many, crate::proofs::Places::some_place))]
     fn add(&mut self, expression: Expression, node: usize) -> Result<(), Refusal>
         ensures { MatchResult result
             (λ _. (length (also expression (listed self.old)) ≤ 64) × (listed self.new ≡ also expression (listed self.old)))

@@ -1,6 +1,6 @@
-use Rattle.std.proofs.Common.{is_some, sym, refl, ap, ◌∙◌}
+use Rattle.std.proofs.Common.{is_some, sym, ap, ◌∙◌}
 use Rattle.expressions.specs.Expressions.{listed}
-use Rattle.expressions.proofs.Numbered.{added_there, there_fits, new_fits, new_too_many, added_new}
+use Rattle.expressions.proofs.Numbered.{added_there, there_fits, new_fits, added_new}
 use Rattle.expressions.proofs.Places.{some_place}
 use Rattle.expressions.proofs.table.Expressions.add.Goals as goal
 
@@ -10,13 +10,6 @@ returns-then-is_some c =
     let e = c.args.expression in
     let there = sym (c.if-is_some.ensures ∙ ap is_some c.position.ensures ∙ some_place e (listed t)) in
     (there_fits e t there, sym (added_there e t there))
-
-pub returns-then-self-ge-PLACES : goal.returns-then-self-ge-PLACES
-returns-then-self-ge-PLACES c =
-    let t = c.args.self.now in
-    let e = c.args.expression in
-    let new = sym (c.if-is_some.ensures ∙ ap is_some c.position.ensures ∙ some_place e (listed t)) in
-    (new_too_many e t new c.if-self-ge-PLACES.true, refl, refl)
 
 pub returns : goal.returns
 returns c =
