@@ -12,20 +12,21 @@ use plan::stored::{NODES, Plan, REGIONS};
 use refusals::refusal::Refusal;
 use sweep::sweeping::sweep;
 
-// For every node, what a sweep of the plan finds. It asks for room (`EffectsFit`), which a public function could not, and so
+// Fills in, for every node, what a sweep of the plan finds. The values are lent, since an array that is answered is copied on
+// its way, and lies on the stack more than once. It asks for room (`EffectsFit`), which a public function could not, and so
 // the tests of the sweep have a function of their own.
 pub(crate) fn find<K: Kind>(
     plan: &Plan,
     kind: &K,
     direction: Direction,
     start: K::Value,
-) -> Result<[K::Value; NODES], Refusal>
+    values: &mut [K::Value; NODES],
+) -> Result<(), Refusal>
     requires { EffectsFit K.Gate.row K.Value.row 256 }
     ensures { MatchResult result
-        (λ values. Finds (K.Kind.algebra kind.now) (seen plan.now) direction start values)
+        (λ _. Finds (K.Kind.algebra kind.now) (seen plan.now) direction start values.new)
         (λ e. Fault (seen plan.now) e) }
 {
-    let mut values = [start; NODES];
     let mut effects = [passing(kind); NODES];
     let mut regions = [passing(kind); REGIONS];
     sweep(
@@ -33,9 +34,8 @@ pub(crate) fn find<K: Kind>(
         kind,
         direction,
         start,
-        &mut values,
+        values,
         &mut effects,
         &mut regions,
-    )?;
-    Ok(values)
+    )
 }

@@ -8,7 +8,7 @@ use facts::constant::Constant;
 use facts::fixed::Fixed;
 use plan::node::Direction;
 use plan::statement::VARIABLES;
-use plan::stored::Plan;
+use plan::stored::{NODES, Plan};
 use refusals::refusal::Refusal;
 
 // The number that a variable holds before a node on every run, or `None` where no one number is fixed.
@@ -22,6 +22,8 @@ pub fn fixed(plan: &Plan, variable: u32, node: usize) -> Result<Option<i32>, Ref
         return Err(Refusal::Operand);
     }
     let kind = Fixed { variable };
-    let values = find(plan, &kind, Direction::Forward, Constant::Unfixed)?;
+    let start = Constant::Unfixed;
+    let mut values = [start; NODES];
+    find(plan, &kind, Direction::Forward, start, &mut values)?;
     Ok(values[node].number())
 }

@@ -19,7 +19,7 @@ use facts::bitwise::Bitwise;
 use facts::dead::Dead;
 use plan::conditions::Conditions;
 use plan::node::{Direction, Node};
-use plan::stored::Plan;
+use plan::stored::{NODES, Plan};
 use refusals::refusal::Refusal;
 
 // Writes for each node whether it passes a test together with its value. The bytes 1 and 0 are what a list is asked for in,
@@ -56,7 +56,9 @@ pub fn redundant(plan: &Plan, out: &mut [u8]) -> Result<(), Refusal>
         return Err(Refusal::Short);
     }
     let kind = Bitwise(Available { expressions });
-    let values = find(plan, &kind, Direction::Forward, Bits::none())?;
+    let start = Bits::none();
+    let mut values = [start; NODES];
+    find(plan, &kind, Direction::Forward, start, &mut values)?;
     let test = |node, value| is_available(&expressions, node, value);
     mark(plan.nodes(), &values, test, out);
     Ok(())
@@ -83,7 +85,8 @@ pub fn dead(plan: &Plan, conditions: Conditions, out: &mut [u8]) -> Result<(), R
         return Err(Refusal::Short);
     }
     let start = Bits::except(conditions.kept);
-    let values = find(plan, &Bitwise(Dead {}), Direction::Backward, start)?;
+    let mut values = [start; NODES];
+    find(plan, &Bitwise(Dead {}), Direction::Backward, start, &mut values)?;
     mark(plan.nodes(), &values, is_dead, out);
     Ok(())
 }

@@ -34,14 +34,17 @@ fn sweep_for(plan: &Plan, subject: Subject, direction: Direction) -> Result<(), 
         Subject::Available => {
             let expressions = number(plan.nodes())?;
             let kind = Bitwise(Available { expressions });
-            find(plan, &kind, direction, Bits::none())?;
+            let start = Bits::none();
+            find(plan, &kind, direction, start, &mut [start; NODES])?;
         }
         Subject::Dead => {
-            find(plan, &Bitwise(Dead {}), direction, Bits::every())?;
+            let start = Bits::every();
+            find(plan, &Bitwise(Dead {}), direction, start, &mut [start; NODES])?;
         }
         Subject::Fixed(variable) => {
             let kind = Fixed { variable };
-            find(plan, &kind, direction, Constant::Unfixed)?;
+            let start = Constant::Unfixed;
+            find(plan, &kind, direction, start, &mut [start; NODES])?;
         }
     }
     Ok(())

@@ -7,7 +7,7 @@ ghost use Rattle.report.specs.Reported.{Reports};
 use crate::listing::{dead, redundant};
 use crate::marks::Marks;
 use crate::sending::find_sent;
-use crate::text::Page;
+use crate::text::put_report;
 use plan::conditions::Conditions;
 use plan::stored::{NODES, Plan};
 use refusals::refusal::Refusal;
@@ -37,5 +37,5 @@ pub fn report(plan: &Plan, conditions: Conditions, out: &mut [u8]) -> Result<usi
         dead: &unread[0..nodes],
         sent: &sent,
     };
-    Ok(Page::report(&marks).copy_to(out))
+    Ok(put_report(&marks, out))
 }

@@ -100,7 +100,9 @@ fn note_all(nodes: &[Node], four: Quartet, values: &[FourConstants], sent: &mut 
     }
 }
 
-// Finds the numbers that are sent of four variables, by one sweep.
+// Finds the numbers that are sent of four variables, by one sweep. In a frame of its own: what it sweeps into takes no room on
+// the stack while a report does anything else.
+#[inline(never)]
 fn find_four(plan: &Plan, four: Quartet, sent: &mut [Option<i32>; NODES]) -> Result<(), Refusal>
     requires { SentBelow (seen plan.now) four.first sent.old }
     ensures { MatchResult result (λ _. SentBelow (seen plan.now) (four.first + 4) sent.new) (λ e. Fault (seen plan.now) e) }
@@ -113,7 +115,8 @@ fn find_four(plan: &Plan, four: Quartet, sent: &mut [Option<i32>; NODES]) -> Res
         left: two,
         right: two,
     };
-    let values = find(plan, &four.kind(), Direction::Forward, unfixed)?;
+    let mut values = [unfixed; NODES];
+    find(plan, &four.kind(), Direction::Forward, unfixed, &mut values)?;
     note_all(plan.nodes(), four, &values, sent);
     Ok(())
 }

@@ -112,25 +112,21 @@ impl Page {
         self.put_words(dead, b"\n");
     }
 
-    // The whole text of what is found: the lines of each node, and the totals.
-    pub(crate) fn report(marks: &Marks) -> Page
-        requires { RoomFor [] (report_text (found_in marks.now) (length marks.now.redundant.now)) }
-        ensures { result.text.items ≡ report_text (found_in marks.now) (length marks.now.redundant.now) }
+    // Puts the whole text of what is found: the lines of each node, and the totals.
+    fn put_whole(&mut self, marks: &Marks)
+        requires { RoomFor self.old.text.items (report_text (found_in marks.now) (length marks.now.redundant.now)) }
+        ensures { self.new.text.items ≡ self.old.text.items ++ report_text (found_in marks.now) (length marks.now.redundant.now) }
     {
-        let mut page = Page {
-            text: ArrayVec::new(),
-        };
-        page.put_nodes(marks);
-        page.put_totals(
+        self.put_nodes(marks);
+        self.put_totals(
             marks.redundant.len(),
             count(marks.redundant),
             count(marks.dead),
         );
-        page
     }
 
     // Copies the text to the front of bytes, and answers its length.
-    pub(crate) fn copy_to(&self, out: &mut [u8]) -> usize
+    fn copy_to(&self, out: &mut [u8]) -> usize
         requires { length self.now.text.items ≤ length out.old }
         ensures length { result ≡ length self.now.text.items }
         ensures bytes { out.new ≡ self.now.text.items ++ drop result out.old }
@@ -139,6 +135,22 @@ impl Page {
         out[0..end].copy_from_slice(self.text.as_slice());
         end
     }
+}
+
+// Puts the whole text of what is found at the front of bytes, and answers its length. The page lies in a frame of its own, so
+// that it takes no room on the stack while the plan is swept, and no time where a report is refused.
+#[inline(never)]
+pub(crate) fn put_report(marks: &Marks, out: &mut [u8]) -> usize
+    requires room { RoomFor [] (report_text (found_in marks.now) (length marks.now.redundant.now)) }
+    requires bytes { 8192 ≤ length out.old }
+    ensures length { result ≡ length (report_text (found_in marks.now) (length marks.now.redundant.now)) }
+    ensures bytes { out.new ≡ report_text (found_in marks.now) (length marks.now.redundant.now) ++ drop result out.old }
+{
+    let mut page = Page {
+        text: ArrayVec::new(),
+    };
+    page.put_whole(marks);
+    page.copy_to(out)
 }
 
 // How many nodes some bytes list.

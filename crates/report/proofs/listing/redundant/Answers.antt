@@ -16,11 +16,11 @@ pub returns-clause-list : goal.returns-clause-list
 returns-clause-list c =
     let p = seen c.args.plan.now in
     let t = c.in_ok-expressions.expressions in
-    let values = c.in_ok-values.values in
+    let values = c.find.new.values in
     let test = λ (x : Node) (v : Bits). bit_of (listed t) v (computed_by x) in
     lists_redundant p (opened p c.args.plan.now.sound) c.in_ok-whole.ensures t
     (subst (λ (ns : List Node). Holding ns t) c.nodes.ensures c.in_ok-expressions.ensures)
-    values (subst (λ (start : Bits). ValuesMeet (available (listed t)) p Forward start values) c.none.ensures c.in_ok-values.ensures.meets) c.args.out.now c.mark.new.out
+    values (subst (λ (start : Bits). ValuesMeet (available (listed t)) p Forward start values) c.none-start.ensures c.in_ok-find.ensures.meets) c.args.out.now c.mark.new.out
     (subst (λ (ns : List Node). Filled 0 (marks test ns values) (length ns) c.args.out.now c.mark.new.out) c.nodes-3.ensures (c.mark.ensures test (λ n l b answer. search rules)))
     (omega (arith, c.if-out-nodes.false, ap length c.nodes-2.ensures))
 

@@ -17,8 +17,8 @@ use Rattle.report.proofs.sending.find_four.Goals as goal
 pub returns : goal.returns
 returns c =
     let p = seen c.args.plan.now in
-    let swept = c.in_ok-values.ensures in
-    let values = c.in_ok-values.values in
+    let swept = c.in_ok-find.ensures in
+    let values = c.find.new.values in
     sent_below p (opened p c.args.plan.now.sound) swept.whole c.args.four.first values
     (subst (λ (k : Pair (Pair declared.Fixed declared.Fixed) (Pair declared.Fixed declared.Fixed)). ValuesMeet (four k) p Forward unfixed_four values) c.kind.ensures swept.meets)
     c.args.sent.now c.note_all.new.sent c.requires
