@@ -70,7 +70,9 @@ pub fn values<K: Kind>(
         direction,
     };
     let mut runs = lister.begun(heap, start)?;
-    let mut values = vec![in heap; kind.top(); plan.nodes().len()]?;
+    // the top is asked for each node: `vec!` would clone it, and of a clone no kind promises anything
+    let mut values = Vec::new(heap);
+    values.resize_with(plan.nodes().len(), || kind.top())?;
     lister.list(&mut runs, &mut values)?;
     Ok(values)
 }
