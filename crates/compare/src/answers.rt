@@ -4,14 +4,13 @@ use crate::tally::{Comparisons, Tally};
 use bitset::bits::Bits;
 use expressions::computing::makes;
 use expressions::table::Expressions;
-use expressions::variables::assigns;
 use facts::available::Available;
 use facts::bitwise::Bitwise;
 use facts::constant::Constant;
 use facts::dead::Dead;
 use facts::fixed::Fixed;
 use plan::node::{Direction, Node};
-use plan::statement::{Statement, VARIABLES};
+use plan::statement::Statement;
 use plan::stored::{NODES, Plan};
 use reference::unlisted::Unlisted;
 use refusals::refusal::Refusal;
@@ -24,10 +23,32 @@ fn is_redundant(expressions: &Expressions, statement: Statement, value: Bits) ->
     numbered.any(|(number, expression)| makes(statement, *expression) && value.bit(number))
 }
 
+// The variable that a step assigns. It is told by a match of its own: the list of dead steps goes by the library's `target`.
+fn assigned(statement: Statement) -> Option<u32> {
+    match statement {
+        Statement::Idle | Statement::Wait | Statement::Send(_) => None,
+        Statement::Set(v, _)
+        | Statement::Copy(v, _)
+        | Statement::Probe(v, _)
+        | Statement::Add(v, _, _)
+        | Statement::Sub(v, _, _)
+        | Statement::Min(v, _, _)
+        | Statement::Max(v, _, _) => Some(v),
+    }
+}
+
 // Whether a step assigns a variable whose bit is set. Here, as above, it is not
 // told by the test of the report, which is what is compared.
 fn is_dead(statement: Statement, value: Bits) -> bool {
-    (0..VARIABLES).any(|variable| assigns(statement, variable) && value.bit(variable as usize))
+    assigned(statement).is_some_and(|variable| value.bit(variable as usize))
+}
+
+// The number that is known, if one is. By a match of its own, too: the answers of `fixed` go by the library's `number`.
+fn known(value: Constant) -> Option<i32> {
+    match value {
+        Constant::Number(number) => Some(number),
+        Constant::Unknown | Constant::Unfixed => None,
+    }
 }
 
 // Compares the bytes of a list with what the values say of each node: a step is listed where `holds` says so of it and of
@@ -58,7 +79,7 @@ fn note_fixed(
     count: &mut Comparisons,
 ) -> Result<(), Refusal> {
     for (node, value) in values.iter().enumerate() {
-        let expected = value.number();
+        let expected = known(*value);
         count.note(fixed(plan, variable, node)? == expected, expected.is_some());
     }
     Ok(())

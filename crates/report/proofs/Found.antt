@@ -1,5 +1,5 @@
 -- The two lists and the numbers that are sent are what a report tells.
-use Rattle.std.proofs.Common.{◌≡◌, ℕ, ◌<◌, ◌≤◌, Bool, true, false, eqb, ◌↔◌, List, [], length, ◌++◌, get_or, take, drop, replicate, ℤ, is_some, Some, None, Option, sym, refl, ap, ◌∙◌, subst, inl, inr, arith, eq-eqb}
+use Rattle.std.proofs.Common.{◌≡◌, ℕ, ◌<◌, ◌≤◌, Bool, true, false, eqb, ◌↔◌, List, [], length, ◌++◌, get_or, take, drop, replicate, ℤ, is_some, Some, None, Option, sym, refl, ap, ◌∙◌, subst, inl, inr, arith, eq-eqb, length-append}
 use mathlib.Core.Bool.{or-false}
 use borrow.Author.Tests.{clash}
 use Rattle.std.proofs.lemmas.List.{get_or-take, length-take-le}
@@ -88,3 +88,7 @@ module _ (p : Drawn) (ranged : Ranged p) (kept : ℕ) (listed listed' unread unr
     long = long;
     bytes = bytes;
   }
+
+-- the text of a report lies within the bytes
+pub within : {p : Drawn} {kept : ℕ} {before after : List ℕ} {written : ℕ} → Reports p kept before after written → written ≤ length after
+within {before = before} {written = written} r = omega (arith, r.long, ap length r.bytes, length-append r.text (drop written before))

@@ -1,5 +1,5 @@
 -- Meets of rows of values.
-use Rattle.std.proofs.Common.{◌≡◌, ℕ, zero, suc, ◌+◌, ◌-◌, ◌≤◌, List, length, take, drop, refl, ap, ◌∙◌, arith, drop-cons}
+use Rattle.std.proofs.Common.{◌≡◌, ℕ, zero, suc, ◌+◌, ◌-◌, ◌≤◌, List, [], ◌∷◌, length, take, drop, refl, ap, ◌∙◌, arith, drop-cons}
 use Rattle.kinds.specs.declared.effect.Effect.{Effect}
 use Rattle.kinds.specs.Kinds.{Algebra}
 use Rattle.kinds.specs.Effects.{passing}
@@ -10,6 +10,12 @@ use Rattle.sweep.specs.Slots.{forced_slot}
 use Rattle.sweep.specs.Valuing.{met_of, met_but}
 
 module _ {V G : Type 0} (a : Algebra V G) where
+  -- where there is no such one, all but it are all
+  pub met_past : (vs : List (Effect G V)) (i : ℕ) → length vs ≤ i → met_but a vs i ≡ met_of a vs
+  met_past [] i h = refl
+  met_past (v ∷ vs) zero h = absurd (omega arith)
+  met_past (v ∷ vs) (suc i) h = ap (a.meet v.forced) (met_past vs i (omega arith))
+
   -- the meet over the branches of a fork, taken from their slots
   pub met_slots : (vs : List (Effect G V)) (b k : ℕ) → b + k ≤ length vs → met_of a (take k (drop b vs)) ≡ met a (forced_slot a vs) (count_from b k)
   met_slots vs b zero h = refl

@@ -82,17 +82,22 @@ owned_branch p f q h b = by (node_at p f) refl b
     by (Step r s) is b = absurd b
     by (Fork r first count) is b = record { region = r; first = first; count = count; there = h; is = is; from = b.0; to = b.1 }
 
--- every region but the outermost is a branch of some fork, which a search for the first such node finds
+pub branch_owned : (p : Drawn) (f q : ℕ) → Owns p f q → Branch (node_at p f) q
+branch_owned p f q o = subst (λ (x : Node). Branch x q) (sym o.is) (o.from, o.to)
+
+-- every region but the outermost is a branch of some fork
+pub some_owner : (p : Drawn) → Sound p → Whole p → (q : ℕ) → 0 < q → q < length p.ends → (f : ℕ) × Owns p f q
+some_owner p s w q h l = by ((fit p s w Forward).outer q l)
+  where
+    by : (q ≡ 0) ⊎ ((f : ℕ) × (qs : List ℕ) × Forks p f qs × In q qs) → (f : ℕ) × Owns p f q
+    by (inl e) = absurd (omega (arith, h, e))
+    by (inr (f, qs, fork, i)) = let t = in_pick i in (f, owns p f q qs t.0 fork t.1)
+
+-- and a search for the first such node finds one
 pub fork_found : (p : Drawn) → Sound p → ∥ Whole p ∥₁ → (q : ℕ) → 0 < q → q < length p.ends → (found : Option ℕ)
     → MatchOption found (AllWithin (λ x. Branch x q → ⊥) p.nodes 0 (length p.nodes))
     (λ f. (f < length p.nodes) × HoldsAt (λ x. Branch x q) p.nodes f × AllWithin (λ x. Branch x q → ⊥) p.nodes 0 f)
     → (f : ℕ) × (found ≡ Some f) × (f < length p.nodes) × Branch (node_at p f) q
 fork_found p s w q h l (Some f) t = (f, refl, t.0, t.1 (Step 0 Idle))
-fork_found p s w q h l None none = absurd (∥∥₁_elim w (λ x y. absurd x) (λ v. by ((fit p s v Forward).outer q l)))
-  where
-    by : (q ≡ 0) ⊎ ((f : ℕ) × (qs : List ℕ) × Forks p f qs × In q qs) → ⊥
-    by (inl e) = omega (arith, h, e)
-    by (inr (f, qs, fork, i)) =
-        let t = in_pick i in
-        let o = owns p f q qs t.0 fork t.1 in
-        none f (Step 0 Idle) (omega arith) o.there (subst (λ (x : Node). Branch x q) (sym o.is) (o.from, o.to))
+fork_found p s w q h l None none =
+    absurd (∥∥₁_elim w (λ x y. absurd x) (λ v. let o = some_owner p s v q h l in none o.0 (Step 0 Idle) (omega arith) o.1.there (branch_owned p o.0 q o.1)))
