@@ -35,7 +35,9 @@ impl<K: Kind> Sweeping<'_, K> {
             .unwrap()
     }
 
-    // Fills in the values of the nodes of one region.
+    // Fills in the values of the nodes of one region. Always inlined: one method that is not keeps all fields of the struct in
+    // memory, in every loop of a sweep.
+    #[inline(always)]
     fn fill_region(&mut self, region: usize, base: K::Value, side: K::Value)
         ensures writes { WritesValues self.old self.new }
         ensures put { let a = K.Kind.algebra self.old.kind.now in let p = seen self.old.plan.now in
