@@ -25,7 +25,7 @@ pub fn target(statement: Statement) -> Option<u32>
 pub fn assigns(statement: Statement, variable: u32) -> bool
     ensures { result ≡ assigned variable statement }
 {
-    target(statement).is_some_and(|v| v == variable)
+    target(statement) == Some(variable)
 }
 
 // Whether a statement uses a variable.

@@ -86,7 +86,13 @@ pub fn dead(plan: &Plan, conditions: Conditions, out: &mut [u8]) -> Result<(), R
     }
     let start = Bits::except(conditions.kept);
     let mut values = [start; NODES];
-    find(plan, &Bitwise(Dead {}), Direction::Backward, start, &mut values)?;
+    find(
+        plan,
+        &Bitwise(Dead {}),
+        Direction::Backward,
+        start,
+        &mut values,
+    )?;
     mark(plan.nodes(), &values, is_dead, out);
     Ok(())
 }

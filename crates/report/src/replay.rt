@@ -39,7 +39,13 @@ fn sweep_for(plan: &Plan, subject: Subject, direction: Direction) -> Result<(), 
         }
         Subject::Dead => {
             let start = Bits::every();
-            find(plan, &Bitwise(Dead {}), direction, start, &mut [start; NODES])?;
+            find(
+                plan,
+                &Bitwise(Dead {}),
+                direction,
+                start,
+                &mut [start; NODES],
+            )?;
         }
         Subject::Fixed(variable) => {
             let kind = Fixed { variable };
