@@ -35,8 +35,8 @@ impl<K: Kind> Sweeping<'_, K> {
             .unwrap()
     }
 
-    // Fills in the values of the nodes of one region. Always inlined: one method that is not keeps all fields of the struct in
-    // memory, in every loop of a sweep.
+    // Fills in the values of the nodes of one region. Always inlined: as long as a method of the struct is called, all of its
+    // fields stay in memory, in every loop of a sweep.
     #[inline(always)]
     fn fill_region(&mut self, region: usize, base: K::Value, side: K::Value)
         ensures writes { WritesValues self.old self.new }
